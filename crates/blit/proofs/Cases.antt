@@ -1,0 +1,58 @@
+-- Cases on eight bytes, by computation: 01's B2 and B3, on the line 1 2 3 4 5 6 7 8 a move of seven bytes by one to the right
+-- and to the left under code Ch, and what the wrong direction makes of each; and writes of two lines at both depths.
+use mathlib.Core.Path.{_≡_, refl}
+use mathlib.Core.List.{List, [], _∷_}
+use Prim.Native.Nat.{ℕ}
+use Rattle.pixel.specs.Pixel.{getPixel, putPixel, byteOf}
+use Rattle.pixel.specs.Raster.{bitwise, raster}
+use Rattle.blit.specs.Blit.{Blit, given, memory, positive, negative, pixels, chipLine, chipLines, chipBlit, directionOf, fromLast, starting}
+use Rattle.blit.specs.Rectangle.{inside, paintedPixel, paintedByte, painted}
+use Rattle.blit.specs.Words.{wordPixel, hostPixel, chipWord}
+
+abbrev pub line8 : List ℕ
+line8 = 1 ∷ 2 ∷ 3 ∷ 4 ∷ 5 ∷ 6 ∷ 7 ∷ 8 ∷ []
+
+abbrev pub moveOf : ℕ → ℕ → Blit
+moveOf source destination =
+    record { bytes = 1; line = 8; width = 7; height = 1; combine = raster 8 12; source = memory source; destination = destination }
+
+-- as the pointwise account has it
+pub painted-cases : (painted (moveOf 0 1) line8 ≡ 1 ∷ 1 ∷ 2 ∷ 3 ∷ 4 ∷ 5 ∷ 6 ∷ 7 ∷ [])
+    × (painted (moveOf 1 0) line8 ≡ 2 ∷ 3 ∷ 4 ∷ 5 ∷ 6 ∷ 7 ∷ 8 ∷ 8 ∷ [])
+unfolding getPixel byteOf bitwise inside paintedPixel paintedByte painted
+painted-cases = (refl, refl)
+
+-- as the chip draws them: B2 downwards from addresses 6 and 7, B3 upwards
+pub chip-cases : (directionOf 1 0 ≡ negative) × (fromLast (moveOf 0 1) ≡ moveOf 6 7) × (directionOf 0 1 ≡ positive)
+    × (chipBlit (starting (directionOf 1 0) (moveOf 0 1)) (directionOf 1 0) line8 ≡ 1 ∷ 1 ∷ 2 ∷ 3 ∷ 4 ∷ 5 ∷ 6 ∷ 7 ∷ [])
+    × (chipBlit (starting (directionOf 0 1) (moveOf 1 0)) (directionOf 0 1) line8 ≡ 2 ∷ 3 ∷ 4 ∷ 5 ∷ 6 ∷ 7 ∷ 8 ∷ 8 ∷ [])
+unfolding getPixel putPixel bitwise pixels chipLine chipLines chipBlit
+chip-cases = (refl, refl, refl, refl, refl)
+
+-- in the wrong direction one pixel smears over the line
+pub smear-cases : (chipBlit (moveOf 0 1) positive line8 ≡ 1 ∷ 1 ∷ 1 ∷ 1 ∷ 1 ∷ 1 ∷ 1 ∷ 1 ∷ [])
+    × (chipBlit (fromLast (moveOf 1 0)) negative line8 ≡ 8 ∷ 8 ∷ 8 ∷ 8 ∷ 8 ∷ 8 ∷ 8 ∷ 8 ∷ [])
+unfolding getPixel putPixel bitwise pixels chipLine chipLines chipBlit
+smear-cases = (refl, refl)
+
+-- a write of two lines, the second four bytes on
+abbrev pub writeOf : ℕ → ℕ → List ℕ → Blit
+writeOf bytes width words =
+    record
+    { bytes = bytes; line = 4; width = width; height = 2; combine = λ s d. s; source = given (hostPixel bytes width words); destination = 0 }
+
+-- lines of three bytes take two words each: the low byte first, and the fourth byte is ignored
+pub odd-lines : chipBlit (writeOf 1 3 (0x0B0A ∷ 0x0D0C ∷ 0x2120 ∷ 0x2322 ∷ [])) positive line8
+    ≡ 0xA ∷ 0xB ∷ 0xC ∷ 4 ∷ 0x20 ∷ 0x21 ∷ 0x22 ∷ 8 ∷ []
+unfolding getPixel putPixel pixels chipLine chipLines chipBlit wordPixel hostPixel
+odd-lines = refl
+
+-- a line of one pixel of two bytes takes one word
+pub wide-lines : chipBlit (writeOf 2 1 (0x0B0A ∷ 0x2120 ∷ [])) positive line8 ≡ 0xA ∷ 0xB ∷ 3 ∷ 4 ∷ 0x20 ∷ 0x21 ∷ 7 ∷ 8 ∷ []
+unfolding getPixel putPixel pixels chipLine chipLines chipBlit wordPixel hostPixel
+wide-lines = refl
+
+-- the second word of line 1 draws one pixel, at address 6
+pub odd-word : chipWord (writeOf 1 3 []) 1 1 0x2322 line8 ≡ 1 ∷ 2 ∷ 3 ∷ 4 ∷ 5 ∷ 6 ∷ 0x22 ∷ 8 ∷ []
+unfolding getPixel putPixel pixels wordPixel chipWord
+odd-word = refl

@@ -1,0 +1,3 @@
+pub mod Blit
+pub mod Rectangle
+pub mod Words

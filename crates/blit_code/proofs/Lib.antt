@@ -1,0 +1,5 @@
+pub mod Worker
+pub mod Straight
+pub mod Lift
+pub mod Lines
+pub mod Put

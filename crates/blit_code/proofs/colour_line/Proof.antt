@@ -1,0 +1,119 @@
+use mathlib.Core.Path.{sym, ap, _∙_}
+use mathlib.Core.List.{List}
+use Prim.Native.Nat.{ℕ, _+_, _-_, _*_}
+use native.Mathlib.Omega.{arith}
+use lib.ListN.{getD, getD-replicate}
+use Rattle.blit_code.specs.Worker.{codeOf}
+use Rattle.blit_code.proofs.Lines.{colour-back, fill-back, line-bytes, to-room, to-zero}
+use borrow.Author.Needs.{needs}
+use Rattle.blit_code.proofs.colour_line.Statement.{statement}
+use Rattle.blit_code.proofs.colour_line.Tie as tie
+
+low-end-requires : tie.Need-low-end-requires
+low-end-requires c κs =
+    let p = c .before .pre in
+    (p .0 .few-bytes, p .0 .line, p .0 .width, omega (arith, p .0 .height), to-zero _ _ (p .0) _ (p .1))
+
+mul-e : tie.Need-mul-e
+mul-e c = let start = c .before .before .before in omega (arith, line-bytes _ _ (start .pre .0))
+
+add-e : tie.Need-add-e
+add-e c =
+    let to = c .before in
+    let p = to .before .before .pre in
+    omega (arith, p .0 .memory, to-room _ _ (p .0) _ _ (p .1) (to .low-end .ensures))
+
+enum-told : tie.Need-enum-told
+enum-told c = search needs
+
+sub-fill-worker : tie.Need-sub-fill-worker
+sub-fill-worker c = search needs
+
+part-fill-worker-start : tie.Need-part-fill-worker-start
+part-fill-worker-start c = search needs
+
+part-fill-worker-end : tie.Need-part-fill-worker-end
+part-fill-worker-end c =
+    let to = c .before .before .before in
+    let p = to .before .before .pre in
+    to-room _ _ (p .0) _ _ (p .1) (to .low-end .ensures)
+
+fill-worker-requires : tie.Need-fill-worker-requires
+fill-worker-requires c κs = search needs
+
+enum-known-mix : tie.Need-enum-known-mix
+enum-known-mix c = search needs
+
+same-pixels-requires : tie.Need-same-pixels-requires
+same-pixels-requires c κs = search needs
+
+sub-line-worker : tie.Need-sub-line-worker
+sub-line-worker c = search needs
+
+part-line-worker-start : tie.Need-part-line-worker-start
+part-line-worker-start c = search needs
+
+part-line-worker-end : tie.Need-part-line-worker-end
+part-line-worker-end c =
+    let to = c .before .before .before .before .before in
+    let p = to .before .before .pre in
+    to-room _ _ (p .0) _ _ (p .1) (to .low-end .ensures)
+
+slice-aggregate-line-worker : tie.Need-slice-aggregate-line-worker
+slice-aggregate-line-worker c = search needs
+
+line-worker-requires : tie.Need-line-worker-requires
+line-worker-requires c κs = search needs
+
+same-length : tie.Need-same-length
+same-length c = search needs
+
+returns : tie.Need-returns
+returns c =
+    let filled = c .before .before in
+    let to = filled .before .before .before .before .before in
+    let a = to .before .before .args in
+    let p = to .before .before .pre in
+    let b = a .job in
+    fill-back b (a .memory .now) (p .0) (a .j) (a .colour) _ (_ + b .width * b .bytes - _) _ (p .1) (p .2)
+    (to .low-end .ensures) (omega arith) (filled .before .before .enum-told .given .1) (filled .fill-worker .ensures)
+
+same-length-2 : tie.Need-same-length-2
+same-length-2 c = search needs
+
+returns-2 : tie.Need-returns-2
+returns-2 c =
+    let worked = c .before .before in
+    let same = worked .before .before .before in
+    let to = same .before .before .before .before .before in
+    let a = to .before .before .args in
+    let p = to .before .before .pre in
+    let b = a .job in
+    colour-back b (a .memory .now) (p .0) (a .j) (a .colour) _ (_ + b .width * b .bytes - _) (b .width) _ _ _ (p .1) (p .2)
+    (to .low-end .ensures) (omega arith) (ap codeOf (sym (same .before .before .mix .given .1))) (omega arith)
+    (λ n h. ap (λ (x : List ℕ). getD x n 0) (same .same-pixels .ensures) ∙ getD-replicate 1024 n (a .colour) 0 (omega (arith, p .0 .width)))
+    (worked .line-worker .ensures)
+
+pub colour-line-spec : {M : Type 1} → statement M
+colour-line-spec =
+    tie.close
+    (tie.spec
+    low-end-requires
+    mul-e
+    add-e
+    enum-told
+    sub-fill-worker
+    part-fill-worker-start
+    part-fill-worker-end
+    fill-worker-requires
+    enum-known-mix
+    same-pixels-requires
+    sub-line-worker
+    part-line-worker-start
+    part-line-worker-end
+    slice-aggregate-line-worker
+    line-worker-requires
+    same-length
+    returns
+    same-length-2
+    returns-2)

@@ -1,0 +1,36 @@
+use borrow.Author.Needs.{needs}
+use Rattle.blit_code.proofs.combine_pixel.Statement.{statement}
+use Rattle.blit_code.proofs.combine_pixel.Tie as tie
+
+get-pixel-requires : tie.Need-get-pixel-requires
+get-pixel-requires c κs = search needs
+
+mul-combine : tie.Need-mul-combine
+mul-combine c = search needs
+
+cast-combine : tie.Need-cast-combine
+cast-combine c = search needs
+
+combine-requires : tie.Need-combine-requires
+combine-requires c κs = search needs
+
+put-pixel-requires : tie.Need-put-pixel-requires
+put-pixel-requires c κs = search needs
+
+same-length : tie.Need-same-length
+same-length c = search needs
+
+returns : tie.Need-returns
+returns c = cc
+
+pub combine-pixel-spec : {M : Type 1} → statement M
+combine-pixel-spec =
+    tie.close
+    (tie.spec
+    get-pixel-requires
+    mul-combine
+    cast-combine
+    combine-requires
+    put-pixel-requires
+    same-length
+    returns)

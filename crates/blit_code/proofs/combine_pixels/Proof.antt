@@ -1,0 +1,79 @@
+use mathlib.Core.Path.{_≡_, ap, _∙_}
+use Prim.Native.Nat.{_-_, _*_, _≤_}
+use native.Mathlib.Numerals.{add-one}
+use native.Mathlib.Omega.{arith}
+use borrow.Author.Needs.{needs}
+use lib.ListN.{length, getD}
+use Rattle.pixel.specs.Raster.{raster}
+use Rattle.pixel.proofs.Pixels.{length-put}
+use Rattle.blit_code.specs.Worker.{straightLine}
+use Rattle.blit.proofs.Runs.{step-fits}
+use Rattle.blit_code.proofs.Worker.{straight-none, straight-more, straight-end}
+use Rattle.blit_code.proofs.combine_pixels.Statement.{statement}
+use Rattle.blit_code.proofs.combine_pixels.Tie as tie
+
+abbrev Inv-loop : tie.InvT-loop
+Inv-loop line₀ bytes width code source i₀ line i = (i ≤ width) × (length line ≡ width * bytes) × (line ≡ straightLine bytes (raster (8 * bytes) code) (λ k. getD source k 0) i line₀)
+
+abbrev μ-loop : tie.MeasureT-loop
+μ-loop line₀ bytes width code source i₀ line i = width - i
+
+loop-holds : tie.Need-loop-holds Inv-loop μ-loop
+loop-holds c = (omega arith, omega arith, straight-none _ _ _ _)
+
+mul-combine-pixel : tie.Need-mul-combine-pixel Inv-loop μ-loop
+mul-combine-pixel c =
+    let a = c .before .before .before .before .before .args in
+    omega (arith, step-fits (a .bytes) (c .before .before .loop .i) (a .width) (omega arith))
+
+mul-combine-pixel-2 : tie.Need-mul-combine-pixel-2 Inv-loop μ-loop
+mul-combine-pixel-2 c = search needs
+
+shared-slice-read-combine-pixel : tie.Need-shared-slice-read-combine-pixel Inv-loop μ-loop
+shared-slice-read-combine-pixel c = search needs
+
+combine-pixel-requires : tie.Need-combine-pixel-requires Inv-loop μ-loop
+combine-pixel-requires c κs =
+    let a = c .before .before .before .before .before .before .args in
+    omega (arith, step-fits (a .bytes) (c .before .before .before .loop .i) (a .width) (omega arith))
+
+add-i : tie.Need-add-i Inv-loop μ-loop
+add-i c = search needs
+
+loop-less : tie.Need-loop-less Inv-loop μ-loop
+loop-less c = search needs
+
+loop-again : tie.Need-loop-again Inv-loop μ-loop
+loop-again c =
+    let put = c .before .before in
+    let l = put .before .before .before .before .loop in
+    let a = put .before .before .before .before .before .before .before .args in (
+      omega arith,
+      ap length (put .combine-pixel .ensures) ∙ length-put _ _ _ _ ∙ l .inv .1,
+      rw add-one
+          (put .combine-pixel .ensures
+          ∙ straight-more (a .bytes) (raster (8 * a .bytes) (a .code)) (λ k. getD (a .source .now) k 0) (l .i) _ (l .line) (l .inv .2)),
+    )
+
+same-length : tie.Need-same-length Inv-loop μ-loop
+same-length c = search needs
+
+returns : tie.Need-returns Inv-loop μ-loop
+returns c = straight-end _ _ _ _ _ _ _ (c .before .loop .inv .2) (omega arith)
+
+pub combine-pixels-spec : {M : Type 1} → statement M
+combine-pixels-spec =
+    tie.close
+    (tie.spec
+    Inv-loop
+    μ-loop
+    loop-holds
+    mul-combine-pixel
+    mul-combine-pixel-2
+    shared-slice-read-combine-pixel
+    combine-pixel-requires
+    add-i
+    loop-less
+    loop-again
+    same-length
+    returns)

@@ -1,0 +1,76 @@
+use mathlib.Core.Path.{_≡_, ap, _∙_}
+use Prim.Native.Nat.{_-_, _*_, _≤_}
+use native.Mathlib.Numerals.{add-one}
+use native.Mathlib.Omega.{arith}
+use borrow.Author.Needs.{needs}
+use lib.ListN.{length, getD}
+use Rattle.pixel.proofs.Pixels.{length-put}
+use Rattle.blit_code.specs.Worker.{straightLine}
+use Rattle.blit.proofs.Runs.{step-fits}
+use Rattle.blit_code.proofs.Worker.{straight-none, straight-more, straight-end}
+use Rattle.blit_code.proofs.copy_pixels.Statement.{statement}
+use Rattle.blit_code.proofs.copy_pixels.Tie as tie
+
+abbrev Inv-loop : tie.InvT-loop
+Inv-loop line₀ bytes width source i₀ line i = (i ≤ width) × (length line ≡ width * bytes) × (line ≡ straightLine bytes (λ s d. s) (λ k. getD source k 0) i line₀)
+
+abbrev μ-loop : tie.MeasureT-loop
+μ-loop line₀ bytes width source i₀ line i = width - i
+
+loop-holds : tie.Need-loop-holds Inv-loop μ-loop
+loop-holds c = (omega arith, omega arith, straight-none _ _ _ _)
+
+mul-put-pixel : tie.Need-mul-put-pixel Inv-loop μ-loop
+mul-put-pixel c =
+    let a = c .before .before .before .before .before .args in
+    omega (arith, step-fits (a .bytes) (c .before .before .loop .i) (a .width) (omega arith))
+
+mul-put-pixel-2 : tie.Need-mul-put-pixel-2 Inv-loop μ-loop
+mul-put-pixel-2 c = search needs
+
+shared-slice-read-put-pixel : tie.Need-shared-slice-read-put-pixel Inv-loop μ-loop
+shared-slice-read-put-pixel c = search needs
+
+put-pixel-requires : tie.Need-put-pixel-requires Inv-loop μ-loop
+put-pixel-requires c κs =
+    let a = c .before .before .before .before .before .before .args in
+    omega (arith, step-fits (a .bytes) (c .before .before .before .loop .i) (a .width) (omega arith))
+
+add-i : tie.Need-add-i Inv-loop μ-loop
+add-i c = search needs
+
+loop-less : tie.Need-loop-less Inv-loop μ-loop
+loop-less c = search needs
+
+loop-again : tie.Need-loop-again Inv-loop μ-loop
+loop-again c =
+    let put = c .before .before in
+    let l = put .before .before .before .before .loop in
+    let a = put .before .before .before .before .before .before .before .args in (
+      omega arith,
+      ap length (put .put-pixel .ensures) ∙ length-put _ _ _ _ ∙ l .inv .1,
+      rw add-one (put .put-pixel .ensures ∙ straight-more (a .bytes) (λ s d. s) (λ k. getD (a .source .now) k 0) (l .i) _ (l .line) (l .inv .2)),
+    )
+
+same-length : tie.Need-same-length Inv-loop μ-loop
+same-length c = search needs
+
+returns : tie.Need-returns Inv-loop μ-loop
+returns c = straight-end _ _ _ _ _ _ _ (c .before .loop .inv .2) (omega arith)
+
+pub copy-pixels-spec : {M : Type 1} → statement M
+copy-pixels-spec =
+    tie.close
+    (tie.spec
+    Inv-loop
+    μ-loop
+    loop-holds
+    mul-put-pixel
+    mul-put-pixel-2
+    shared-slice-read-put-pixel
+    put-pixel-requires
+    add-i
+    loop-less
+    loop-again
+    same-length
+    returns)

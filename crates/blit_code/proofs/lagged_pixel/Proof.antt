@@ -1,0 +1,31 @@
+use Rattle.blit_code.proofs.Worker.{lag-early, lag-late}
+use Rattle.blit.proofs.Runs.{step-fits}
+use native.Mathlib.Omega.{arith}
+use borrow.Author.Needs.{needs}
+use Rattle.blit_code.proofs.lagged_pixel.Statement.{statement}
+use Rattle.blit_code.proofs.lagged_pixel.Tie as tie
+
+returns : tie.Need-returns
+returns c = lag-early _ _ _ _ (c .if1 .taken)
+
+rank-of-requires : tie.Need-rank-of-requires
+rank-of-requires c κs = search needs
+
+mul-get-pixel : tie.Need-mul-get-pixel
+mul-get-pixel c =
+    let a = c .before .before .before .args in
+    omega (arith, step-fits (a .bytes) (c .rank-of .result) (a .width) (c .rank-of .ensures .1))
+
+get-pixel-requires : tie.Need-get-pixel-requires
+get-pixel-requires c κs =
+    let a = c .before .before .before .args in
+    omega (arith, step-fits (a .bytes) (c .rank-of .result) (a .width) (c .rank-of .ensures .1))
+
+returns-2 : tie.Need-returns-2
+returns-2 c =
+    let a = c .before .before .before .before .args in
+    lag-late (a .n) (a .lag) _ _ _ _ _ _ (c .before .before .if1 .left) (c .before .rank-of .ensures .0) (c .get-pixel .ensures)
+
+pub lagged-pixel-spec : {M : Type 1} → statement M
+lagged-pixel-spec =
+    tie.close (tie.spec returns rank-of-requires mul-get-pixel get-pixel-requires returns-2)

@@ -1,0 +1,365 @@
+// The blit engine: pixels one by one, line by line, in the direction named.
+ghost use mathlib.Core.Path.{_≡_};
+ghost use mathlib.Core.Bool.{cond};
+ghost use mathlib.Core.List.{[], _∷_};
+ghost use Prim.Native.Nat.{_+_, _-_, _*_, _≤_, _<_};
+ghost use lib.Dec.{ltb};
+ghost use lib.ListN.{length, getD, replicate};
+ghost use Rattle.pixel.specs.Pixel.{getPixel, putPixel};
+ghost use Rattle.pixel.specs.Raster.{raster};
+ghost use Rattle.blit.specs.Blit.{pixels, chipLine, chipBlit, towards};
+ghost use Rattle.blit.specs.Words.{perWord, wordPixel};
+ghost use Rattle.blit_code.specs.Job.{mixOf, blitOf, JobOk};
+ghost use Rattle.blit_code.specs.Worker.{codeOf, rank, spot, workLine, straightLine, lagOf, lowEnd, AboveZero, readLine};
+ghost use Rattle.blit_code.specs.declared.From.the-variants.{Colour, Memory};
+
+// What a source pixel and a destination pixel make: the source, or the two under a raster code.
+pub enum Mix {
+    Store,
+    Raster(u8),
+}
+
+// Where the source pixels come from: one colour, or memory from an address on.
+pub enum From {
+    Colour(u16),
+    Memory(u32),
+}
+
+// A blit: its direction (down: negative), bytes of a pixel, line length in bytes, size in pixels, how pixels combine,
+// source, and destination address.
+pub struct Job {
+    pub down: bool,
+    pub bytes: usize,
+    pub line: usize,
+    pub width: usize,
+    pub height: usize,
+    pub mix: Mix,
+    pub from: From,
+    pub destination: u32,
+}
+
+// The raster code that does what a mix does.
+fn code_of(mix: Mix) -> u8
+    ensures { λ r. ⌜ r ≡ codeOf mix ⌝ }
+{
+    match mix {
+        Mix::Store => 0xC,
+        Mix::Raster(code) => code,
+    }
+}
+
+// Pixels of one colour, side by side.
+fn fill_pixels(line: &mut [u8], bytes: usize, width: usize, colour: u16)
+    requires { ⌜ (0 < bytes) × (bytes ≤ 2) × (width ≤ 1024) × (length (now line) ≡ width * bytes) ⌝ }
+    ensures { λ _. ⌜ now (line .exit) ≡ straightLine bytes (λ s d. s) (λ i. colour) width (now (line .entry)) ⌝ }
+{
+    let mut i = 0;
+    while i < width {
+        pixel::put_pixel(line, bytes, i * bytes, colour);
+        i += 1;
+    }
+}
+
+// Pixels of a source line, stored side by side.
+fn copy_pixels(line: &mut [u8], bytes: usize, width: usize, source: &[u16])
+    requires { ⌜ (0 < bytes) × (bytes ≤ 2) × (width ≤ 1024) × (length (now line) ≡ width * bytes) × (width ≤ length (now source)) ⌝ }
+    ensures { λ _. ⌜ now (line .exit) ≡ straightLine bytes (λ s d. s) (λ i. getD (now (source .entry)) i 0) width (now (line .entry)) ⌝ }
+{
+    let mut i = 0;
+    while i < width {
+        pixel::put_pixel(line, bytes, i * bytes, source[i]);
+        i += 1;
+    }
+}
+
+// A source pixel and the pixel at a place, combined under a raster code and stored there.
+fn combine_pixel(line: &mut [u8], bytes: usize, at: usize, code: u8, v: u16)
+    requires { ⌜ (0 < bytes) × (bytes ≤ 2) × (at + bytes ≤ length (now line)) ⌝ }
+    ensures { λ _. ⌜ now (line .exit) ≡ putPixel bytes (now (line .entry)) at (raster (8 * bytes) code v (getPixel bytes (now (line .entry)) at)) ⌝ }
+{
+    let d = pixel::get_pixel(line, bytes, at);
+    let r = pixel::combine((8 * bytes) as u32, code, v, d);
+    pixel::put_pixel(line, bytes, at, r);
+}
+
+// Pixels of a source line, combined with those of the line under a raster code, side by side.
+fn combine_pixels(line: &mut [u8], bytes: usize, width: usize, code: u8, source: &[u16])
+    requires { ⌜ (0 < bytes) × (bytes ≤ 2) × (width ≤ 1024) × (length (now line) ≡ width * bytes) × (width ≤ length (now source)) ⌝ }
+    ensures { λ _. ⌜ now (line .exit) ≡ straightLine bytes (raster (8 * bytes) code) (λ i. getD (now (source .entry)) i 0) width (now (line .entry)) ⌝ }
+{
+    let mut i = 0;
+    while i < width {
+        combine_pixel(line, bytes, i * bytes, code, source[i]);
+        i += 1;
+    }
+}
+
+// Which pixel of a line, from its low end, is drawn as the n-th.
+fn rank_of(down: bool, width: usize, n: usize) -> usize
+    requires { ⌜ n < width ⌝ }
+    ensures { λ r. ⌜ (r ≡ rank down width n) × (r < width) ⌝ }
+{
+    if down { width - 1 - n } else { n }
+}
+
+// The source of the n-th drawn pixel: from the source line, or, from the lag on, the line's own pixel that many pixels back.
+fn lagged_pixel(
+    line: &[u8],
+    down: bool,
+    bytes: usize,
+    width: usize,
+    pixel: u16,
+    lag: usize,
+    n: usize,
+) -> u16
+    requires { ⌜ (0 < bytes) × (bytes ≤ 2) × (n < width) × (width ≤ 1024) × (length (now line) ≡ width * bytes) ⌝ }
+    ensures { λ r. ⌜ r ≡ cond (ltb n lag) pixel (getPixel bytes (now (line .entry)) (spot down bytes width (n - lag))) ⌝ }
+{
+    if n < lag {
+        return pixel;
+    }
+    let k = rank_of(down, width, n - lag);
+    pixel::get_pixel(line, bytes, k * bytes)
+}
+
+// The pixels of a line whose source, from the lag on, is the line itself, one by one in the direction named.
+fn smear_pixels(
+    line: &mut [u8],
+    down: bool,
+    bytes: usize,
+    width: usize,
+    code: u8,
+    source: &[u16],
+    lag: usize,
+)
+    requires { ⌜ (0 < bytes) × (bytes ≤ 2) × (width ≤ 1024) × (length (now line) ≡ width * bytes) × (width ≤ length (now source)) ⌝ }
+    ensures { λ _. ⌜ now (line .exit) ≡ workLine down bytes width code (now (source .entry)) lag width (now (line .entry)) ⌝ }
+{
+    let mut n = 0;
+    while n < width {
+        let k = rank_of(down, width, n);
+        let v = lagged_pixel(line, down, bytes, width, source[k], lag, n);
+        combine_pixel(line, bytes, k * bytes, code, v);
+        n += 1;
+    }
+}
+
+// Draws one colour over a lent line.
+fn fill_worker(line: &mut [u8], bytes: usize, width: usize, colour: u16)
+    requires { ⌜ (0 < bytes) × (bytes ≤ 2) × (width ≤ 1024) × (length (now line) ≡ width * bytes) ⌝ }
+    ensures { λ _. ⌜ now (line .exit) ≡ straightLine bytes (λ s d. s) (λ i. colour) width (now (line .entry)) ⌝ }
+{
+    if bytes == 1 {
+        fill_pixels(line, 1, width, colour);
+    } else {
+        fill_pixels(line, 2, width, colour);
+    }
+}
+
+// Draws a source line over a lent line under a raster code, in the direction named. From the lag on the source is the line itself.
+fn line_worker(
+    line: &mut [u8],
+    down: bool,
+    bytes: usize,
+    width: usize,
+    code: u8,
+    source: &[u16],
+    lag: usize,
+)
+    requires { ⌜ (0 < bytes) × (bytes ≤ 2) × (width ≤ 1024) × (length (now line) ≡ width * bytes) × (width ≤ length (now source)) ⌝ }
+    ensures { λ _. ⌜ now (line .exit) ≡ workLine down bytes width code (now (source .entry)) lag width (now (line .entry)) ⌝ }
+{
+    if lag < width {
+        smear_pixels(line, down, bytes, width, code, source, lag);
+        return;
+    }
+    if code == 0xC {
+        if bytes == 1 {
+            copy_pixels(line, 1, width, source);
+        } else {
+            copy_pixels(line, 2, width, source);
+        }
+        return;
+    }
+    if bytes == 1 {
+        combine_pixels(line, 1, width, code, source);
+    } else {
+        combine_pixels(line, 2, width, code, source);
+    }
+}
+
+// Pixels of memory from an address on.
+fn read_pixels(memory: &[u8], bytes: usize, width: usize, at: usize, source: &mut [u16])
+    requires { ⌜ (0 < bytes) × (bytes ≤ 2) × (width ≤ length (now source)) × (at + width * bytes ≤ length (now memory)) ⌝ }
+    ensures { λ _. ⌜ now (source .exit) ≡ readLine bytes (now (memory .entry)) at width (now (source .entry)) ⌝ }
+{
+    let mut i = 0;
+    while i < width {
+        let v = pixel::get_pixel(memory, bytes, at + i * bytes);
+        source[i] = v;
+        i += 1;
+    }
+}
+
+// Reads a source line.
+fn read_line(memory: &[u8], bytes: usize, width: usize, at: usize, source: &mut [u16])
+    requires { ⌜ (0 < bytes) × (bytes ≤ 2) × (width ≤ length (now source)) × (at + width * bytes ≤ length (now memory)) ⌝ }
+    ensures { λ _. ⌜ now (source .exit) ≡ readLine bytes (now (memory .entry)) at width (now (source .entry)) ⌝ }
+{
+    if bytes == 1 {
+        read_pixels(memory, 1, width, at, source);
+    } else {
+        read_pixels(memory, 2, width, at, source);
+    }
+}
+
+// From which pixel on a move's source is a pixel that its own line has stored; s and d are the low ends of the two lines.
+fn lag_of(down: bool, bytes: usize, width: usize, s: usize, d: usize) -> usize
+    requires { ⌜ 0 < bytes ⌝ }
+    ensures { λ r. ⌜ r ≡ lagOf down bytes width s d ⌝ }
+{
+    if down {
+        if d < s {
+            return (s - d) / bytes;
+        }
+        return width;
+    }
+    if s < d {
+        return (d - s) / bytes;
+    }
+    width
+}
+
+// The low end of line j of a rectangle that is drawn from an address.
+fn low_end(down: bool, bytes: usize, line: usize, width: usize, at: u32, j: usize) -> usize
+    requires { ⌜ (bytes ≤ 2) × (line ≤ 4096) × (width ≤ 1024) × (j ≤ 1024) × AboveZero down bytes line width at j ⌝ }
+    ensures { λ r. ⌜ r ≡ lowEnd down bytes line width at j ⌝ }
+{
+    if down {
+        return at as usize + bytes - (j * line + width * bytes);
+    }
+    at as usize + j * line
+}
+
+// A source line of one colour.
+fn same_pixels(colour: u16) -> [u16; 1024]
+    ensures { λ r. ⌜ r ≡ replicate 1024 colour ⌝ }
+{
+    [colour; 1024]
+}
+
+// Line j of a blit of one colour.
+fn colour_line(job: Job, j: usize, colour: u16, memory: &mut [u8])
+    requires { ⌜ JobOk (length (now memory)) job × (j < job .height) × (job .from ≡ Colour colour) ⌝ }
+    ensures { λ _. ⌜ now (memory .exit) ≡ chipLine (blitOf job) (towards (job .down)) j (job .width) (now (memory .entry)) ⌝ }
+{
+    let d = low_end(job.down, job.bytes, job.line, job.width, job.destination, j);
+    let e = d + job.width * job.bytes;
+    let mix = job.mix;
+    match mix {
+        Mix::Store => fill_worker(&mut memory[d..e], job.bytes, job.width, colour),
+        Mix::Raster(code) => {
+            let source = same_pixels(colour);
+            line_worker(
+                &mut memory[d..e],
+                job.down,
+                job.bytes,
+                job.width,
+                code,
+                &source,
+                job.width,
+            );
+        }
+    }
+}
+
+// Line j of a move from an address; source is room for its source line.
+fn move_line(job: Job, j: usize, from: u32, source: &mut [u16], memory: &mut [u8])
+    requires { ⌜ JobOk (length (now memory)) job × (j < job .height) × (job .from ≡ Memory from) × (1024 ≤ length (now source)) ⌝ }
+    ensures { λ _. ⌜ now (memory .exit) ≡ chipLine (blitOf job) (towards (job .down)) j (job .width) (now (memory .entry)) ⌝ }
+    ensures { λ _. ⌜ now (source .exit) ≡ readLine (job .bytes) (now (memory .entry)) (lowEnd (job .down) (job .bytes) (job .line) (job .width) from j) (job .width) (now (source .entry)) ⌝ }
+{
+    let s = low_end(job.down, job.bytes, job.line, job.width, from, j);
+    let d = low_end(job.down, job.bytes, job.line, job.width, job.destination, j);
+    read_line(memory, job.bytes, job.width, s, source);
+    let lag = lag_of(job.down, job.bytes, job.width, s, d);
+    let mix = job.mix;
+    let code = code_of(mix);
+    let e = d + job.width * job.bytes;
+    line_worker(
+        &mut memory[d..e],
+        job.down,
+        job.bytes,
+        job.width,
+        code,
+        source,
+        lag,
+    );
+}
+
+// All lines of a blit of one colour.
+fn colour_lines(job: Job, colour: u16, memory: &mut [u8])
+    requires { ⌜ JobOk (length (now memory)) job × (job .from ≡ Colour colour) ⌝ }
+    ensures { λ _. ⌜ now (memory .exit) ≡ chipBlit (blitOf job) (towards (job .down)) (now (memory .entry)) ⌝ }
+{
+    let mut j = 0;
+    while j < job.height {
+        colour_line(job, j, colour, memory);
+        j += 1;
+    }
+}
+
+// All lines of a move.
+fn move_lines(job: Job, from: u32, memory: &mut [u8])
+    requires { ⌜ JobOk (length (now memory)) job × (job .from ≡ Memory from) ⌝ }
+    ensures { λ _. ⌜ now (memory .exit) ≡ chipBlit (blitOf job) (towards (job .down)) (now (memory .entry)) ⌝ }
+{
+    let mut source = same_pixels(0);
+    let mut j = 0;
+    while j < job.height {
+        move_line(job, j, from, &mut source, memory);
+        j += 1;
+    }
+}
+
+// A blit over the lent memory.
+pub fn perform(job: Job, memory: &mut [u8])
+    requires { ⌜ JobOk (length (now memory)) job ⌝ }
+    ensures { λ _. ⌜ now (memory .exit) ≡ chipBlit (blitOf job) (towards (job .down)) (now (memory .entry)) ⌝ }
+{
+    let from = job.from;
+    match from {
+        From::Colour(colour) => colour_lines(job, colour, memory),
+        From::Memory(at) => move_lines(job, at, memory),
+    }
+}
+
+// The pixels of a host word, the low byte first.
+fn word_pixels(bytes: usize, word: u16) -> [u16; 2]
+    requires { ⌜ (0 < bytes) × (bytes ≤ 2) ⌝ }
+    ensures { λ r. ⌜ r ≡ wordPixel bytes word 0 ∷ wordPixel bytes word 1 ∷ [] ⌝ }
+{
+    if bytes == 1 {
+        return [word % 256, word / 256];
+    }
+    [word, 0]
+}
+
+// The first pixels of a host word, drawn from an address on.
+pub fn put_word(bytes: usize, mix: Mix, at: usize, count: usize, word: u16, memory: &mut [u8])
+    requires { ⌜ (0 < bytes) × (bytes ≤ 2) × (count ≤ perWord bytes) × (at + count * bytes ≤ length (now memory)) ⌝ }
+    ensures { λ _. ⌜ now (memory .exit) ≡ pixels bytes (mixOf mix bytes) (λ i. at + i * bytes) (λ m i. wordPixel bytes word i) count (now (memory .entry)) ⌝ }
+{
+    let source = word_pixels(bytes, word);
+    let code = code_of(mix);
+    let e = at + count * bytes;
+    line_worker(
+        &mut memory[at..e],
+        false,
+        bytes,
+        count,
+        code,
+        &source,
+        count,
+    );
+}

@@ -1,0 +1,97 @@
+-- What an admitted record says of the registers, and its effect on the memory.
+use Prim.Native.Nat.{ℕ}
+use mathlib.Core.Path.{_≡_, refl, sym, ap}
+use mathlib.Core.Bool.{Bool, true, false, not, _&&_, _||_, cond}
+use mathlib.Core.List.{List}
+use native.Mathlib.Omega.{arith}
+use Rattle.record.specs.Checks.{Numbered, AllPass}
+use Rattle.record.specs.declared.Record.{Record}
+use Rattle.record.proofs.Checks.{none, none-back}
+use Rattle.blit.specs.Words.{chipWord}
+use Rattle.chip.specs.Register.{listed, fits}
+use Rattle.chip.specs.Start.{operation, startable, within, writeOf, started}
+use Rattle.chip.specs.Admit.{isData, starts, written, admitRows, refusal, effect}
+use Rattle.chip.specs.declared.Registers.{Registers}
+use Rattle.chip.specs.declared.Chip.{Chip}
+
+-- ---- a record that is not refused
+
+pub record Admits (m : ℕ) (c : Chip) (r : Record) : Type 0 where
+  pub listed : listed (r .number) ≡ true
+  pub field : fits (r .number) (r .value) ≡ true
+  pub startable : starts r ≡ true → startable (written c r) ≡ true
+  pub within : starts r ≡ true → within m (written c r) ≡ true
+  pub order : cond (isData r) (not (c .due .any)) (c .due .any) ≡ false
+
+-- every row of the table has a number
+pub numbered : (m : ℕ) (c : Chip) (r : Record) → Numbered (admitRows m c r)
+unfolding Numbered admitRows
+numbered m c r = (omega arith, (omega arith, (omega arith, (omega arith, tt))))
+
+is-true : (a : Bool) → not a ≡ false → a ≡ true
+is-true true e = refl
+is-true false e = sym e
+
+first-true : (a b : Bool) → (not a || b) ≡ false → a ≡ true
+first-true true b e = refl
+first-true false b e = sym e
+
+second-false : (a b : Bool) → (not a || b) ≡ false → b ≡ false
+second-false true b e = e
+second-false false true e = e
+second-false false false e = refl
+
+then-true : (a b : Bool) → (a && not b) ≡ false → a ≡ true → b ≡ true
+then-true a true e h = refl
+then-true true false e h = sym e
+then-true false false e h = h
+
+then-false : (a b : Bool) → (a ≡ true → b ≡ true) → (a && not b) ≡ false
+then-false true b f = ap not (f refl)
+then-false false b f = refl
+
+pub admits : (m : ℕ) (c : Chip) (r : Record) → refusal m c r ≡ 0 → Admits m c r
+unfolding refusal admitRows AllPass
+admits m c r e =
+    let p = none (admitRows m c r) (numbered m c r) e in
+    let s = second-false (fits (r .number) (r .value)) (starts r && not (startable (written c r))) (p .1 .0) in
+    record {
+      listed = is-true (listed (r .number)) (p .0);
+      field = first-true (fits (r .number) (r .value)) (starts r && not (startable (written c r))) (p .1 .0);
+      startable = then-true (starts r) (startable (written c r)) s;
+      within = then-true (starts r) (within m (written c r)) (p .1 .1 .0);
+      order = p .1 .1 .1 .0;
+    }
+
+pub admits-back : (m : ℕ) (c : Chip) (r : Record) → Admits m c r → refusal m c r ≡ 0
+unfolding refusal admitRows AllPass
+admits-back m c r a =
+    none-back (admitRows m c r) (
+      ap not (a .listed),
+      (
+        (λ t. not (a .field t) || then-false (starts r) (startable (written c r)) (a .startable) t),
+        (
+          then-false (starts r) (within m (written c r)) (a .within),
+          (a .order, tt),
+        ),
+      ),
+    )
+
+pub not-started : (b : Registers) (old : List ℕ) → operation b ≡ 0 → old ≡ started b old
+unfolding started
+not-started b old e = rw e
+
+-- ---- the effect of a record
+
+module _ (c : Chip) (r : Record) (old new : List ℕ) where
+  pub word-effect : isData r ≡ true → new ≡ chipWord (writeOf (c .blit) (λ i j. 0)) (c .due .line) (c .due .word) (r .value) old → new ≡ effect c r old
+  unfolding effect
+  word-effect e h = rw e h
+
+  pub start-effect : isData r ≡ false → starts r ≡ true → new ≡ started (written c r) old → new ≡ effect c r old
+  unfolding effect
+  start-effect e f h = rw (e, f) h
+
+  pub no-effect : isData r ≡ false → starts r ≡ false → new ≡ old → new ≡ effect c r old
+  unfolding effect
+  no-effect e f h = rw (e, f) h

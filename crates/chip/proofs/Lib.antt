@@ -1,0 +1,7 @@
+pub mod Runs
+pub mod Admits
+pub mod Answers
+pub mod Tables
+pub mod Plays
+pub mod Commands
+pub mod Cases

@@ -1,0 +1,4 @@
+pub mod Register
+pub mod Start
+pub mod Admit
+pub mod Play

@@ -1,0 +1,90 @@
+-- Laws of the pixels of a data word, drawn where the memory may end before them.
+use Prim.Native.Nat.{ℕ, _+_, _-_, _*_, _/_, _%_, _<_, min}
+use mathlib.Core.Path.{_≡_, refl, sym, ap, _∙_}
+use mathlib.Core.List.{List, [], _∷_}
+use native.Mathlib.Numerals.{add-one}
+use native.Mathlib.Omega.{arith}
+use lib.ListN.{getD, set}
+use Rattle.pixel.specs.Pixel.{getPixel, putPixel}
+use Rattle.pixel.specs.Raster.{raster}
+use Rattle.pixel.proofs.Pixels.{get-is-one, get-is-two, put-is-one, put-is-two}
+use Rattle.blit.specs.Blit.{pixels}
+use Rattle.blit.specs.Words.{perWord, wordPixel, chipWord}
+use Rattle.blit.proofs.Words.{put-is-word}
+use Rattle.chip.specs.Start.{rasterCode, bytesOf, lineOf, widthOf, destinationOf, writeOf}
+use Rattle.chip.specs.declared.Registers.{Registers}
+
+-- ---- one pixel
+
+pub drawn-one : (n a code p x v : ℕ) (m : List ℕ) → n ≡ 1 → x ≡ getD m a 0 → v ≡ raster 8 code p x
+    → set m a (v % 256) ≡ putPixel n m a (raster (8 * n) code p (getPixel n m a))
+drawn-one n a code p x v m e h k =
+    put-is-one n m a v e
+    ∙ ap (putPixel n m a) (k ∙ (λ t. raster (8 * sym e t) code p x) ∙ ap (raster (8 * n) code p) (get-is-one n m a x e h))
+
+pub drawn-two : (n a code p x y v : ℕ) (m m′ : List ℕ) → n ≡ 2 → x ≡ getD m a 0 → y ≡ getD m (a + 1) 0 → v ≡ raster 16 code p (x + 256 * y)
+    → m′ ≡ set m a (v % 256) → set m′ (a + 1) (v / 256 % 256) ≡ putPixel n m a (raster (8 * n) code p (getPixel n m a))
+drawn-two n a code p x y v m m′ e h g k s =
+    ap (λ (l : List ℕ). set l (a + 1) (v / 256 % 256)) s ∙ put-is-two n m a v e
+    ∙ ap (putPixel n m a) (k ∙ (λ t. raster (8 * sym e t) code p (x + 256 * y)) ∙ ap (raster (8 * n) code p) (get-is-two n m a x y e h g))
+
+-- ---- the pixels of a word
+
+-- a word has one pixel of two bytes, two of one
+pub first-only : (n i : ℕ) → n ≡ 2 → i < perWord n → i ≡ 0
+first-only n i e h = let h′ : i < 2 / 2 = rw e at h in omega arith
+
+pub second-only : (n i : ℕ) → n ≡ 1 → i < perWord n → (i ≡ 0 → ⊥) → i ≡ 1
+second-only n i e h g = let h′ : i < 2 / 1 = rw e at h in omega arith
+
+pub word-whole : (n w i : ℕ) → n ≡ 2 → i ≡ 0 → w < 65536 → w ≡ wordPixel n w i
+unfolding wordPixel getPixel
+word-whole n w i e f h = rw (e, f) (omega arith)
+
+pub word-low : (n w i : ℕ) → n ≡ 1 → i ≡ 0 → w % 256 ≡ wordPixel n w i
+unfolding wordPixel getPixel
+word-low n w i e f = rw (e, f) (omega arith)
+
+pub word-high : (n w i : ℕ) → n ≡ 1 → i ≡ 1 → w < 65536 → w / 256 ≡ wordPixel n w i
+unfolding wordPixel getPixel
+word-high n w i e f h = rw (e, f) (omega arith)
+
+second-byte : (v q r : ℕ) → v ≡ q * 65536 + r → r / 256 % 256 ≡ v / 256 % 256
+second-byte v q r e =
+    let part : v / 256 ≡ q * 256 + r / 256 = omega arith in
+    rw part (omega arith)
+
+-- bits above the lowest sixteen are not looked at
+pub word-bits : (n v i : ℕ) → wordPixel n (v % 65536) i ≡ wordPixel n v i
+unfolding wordPixel
+word-bits n v i =
+    let low : v % 65536 % 256 ≡ v % 256 = omega arith in
+    let high : v % 65536 / 256 % 256 ≡ v / 256 % 256 = second-byte v (v / 65536) (v % 65536) (omega arith) in
+    λ t. getPixel n (low t ∷ high t ∷ []) (i * n)
+
+-- ---- a run of pixels
+
+-- the first i pixels of a word, from address a on
+abbrev pub wordPixels : ℕ → ℕ → ℕ → ℕ → ℕ → List ℕ → List ℕ
+wordPixels n code a w i m = pixels n (λ s d. raster (8 * n) code s d) (λ k. a + k * n) (λ x k. wordPixel n w k) i m
+
+pub none-drawn : (n code a w : ℕ) (m : List ℕ) → m ≡ wordPixels n code a w 0 m
+unfolding pixels
+none-drawn n code a w m = refl
+
+pub one-more : (n code a w i p : ℕ) (m₀ m : List ℕ) → m ≡ wordPixels n code a w i m₀ → p ≡ wordPixel n w i
+    → putPixel n m (a + i * n) (raster (8 * n) code p (getPixel n m (a + i * n))) ≡ wordPixels n code a w (i + 1) m₀
+unfolding pixels
+one-more n code a w i p m₀ m e h =
+    (λ t. putPixel n (e t) (a + i * n) (raster (8 * n) code (h t) (getPixel n (e t) (a + i * n))))
+    ∙ ap (λ (k : ℕ). wordPixels n code a w k m₀) (sym (add-one i))
+
+-- the pixels that a data word has in its line
+pub word-written : (b : Registers) (j t n code a count w v : ℕ) (m : List ℕ) → n ≡ bytesOf b → code ≡ rasterCode b
+    → a ≡ destinationOf b + (j * lineOf b + t * (2 / bytesOf b) * bytesOf b) → count ≡ min (2 / bytesOf b) (widthOf b - t * (2 / bytesOf b))
+    → w ≡ v % 65536 → wordPixels n code a w count m ≡ chipWord (writeOf b (λ i k. 0)) j t v m
+unfolding writeOf
+word-written b j t n code a count w v m en ec ea ek ew =
+    (λ x. wordPixels (en x) (ec x) a (ew x) count m)
+    ∙ (λ x. pixels (bytesOf b) (λ s d. raster (8 * bytesOf b) (rasterCode b) s d) (λ k. a + k * bytesOf b) (λ y k. word-bits (bytesOf b) v k x) count m)
+    ∙ put-is-word (writeOf b (λ i k. 0)) j t a count ea ek v m

@@ -1,0 +1,105 @@
+-- The loop: what is left of the stream, applied to the memory so far, is the whole stream applied; and it is not refused.
+use mathlib.Core.Path.{_≡_, refl, sym, ap, _∙_}
+use mathlib.Core.List.{List}
+use Prim.Native.Nat.{ℕ, _+_, _/_, _-_, _≤_, _<_, _^_}
+use native.Mathlib.Nat.{sub-zero}
+use native.Mathlib.Omega.{arith}
+use borrow.Author.Needs.{needs}
+use lib.ListN.{length}
+use Rattle.record.specs.Record.{recordsFrom, recordsOf}
+use Rattle.record.specs.declared.Record.{Record}
+use Rattle.record.proofs.Records.{records-end}
+use Rattle.screen.specs.Screen.{memorySize}
+use Rattle.chip.specs.Admit.{refusal, chipAfter, effect}
+use Rattle.chip.specs.Play.{newChip, run, applied}
+use Rattle.chip.specs.declared.Chip.{Chip}
+use Rattle.chip.proofs.Runs.{applied-end, applied-next, admitted-next}
+use Rattle.chip_code.proofs.perform_all.Statement.{statement}
+use Rattle.chip_code.proofs.perform_all.Tie as tie
+
+abbrev Inv-loop : tie.InvT-loop
+Inv-loop stream memory₀ count chip₀ i₀ memory chip i = (i ≤ count) × (applied newChip (recordsOf stream) memory₀ ≡ applied chip (recordsFrom stream i (count - i)) memory) × (run memorySize chip i (recordsFrom stream i (count - i)) .number ≡ 0) × (length memory ≡ length memory₀)
+
+abbrev μ-loop : tie.MeasureT-loop
+μ-loop stream memory₀ count chip₀ i₀ memory chip i = count - i
+
+new-chip-requires : tie.Need-new-chip-requires Inv-loop μ-loop
+new-chip-requires c κs = search needs
+
+loop-holds : tie.Need-loop-holds Inv-loop μ-loop
+unfolding recordsOf
+loop-holds c =
+    let s = c .before .before .before .args .stream .now in
+    let n : ℕ = length s / 8 in (
+      omega arith,
+      (λ t. applied (sym (c .new-chip .ensures) t) (recordsFrom s 0 (sym (sub-zero n) t)) (c .before .before .before .args .memory .now)),
+      (λ t. run memorySize (c .new-chip .ensures t) 0 (recordsFrom s 0 (sub-zero n t)) .number) ∙ c .before .before .before .pre .0,
+      refl,
+    )
+
+record-at-requires : tie.Need-record-at-requires Inv-loop μ-loop
+record-at-requires c κs = omega arith
+
+apply-requires : tie.Need-apply-requires Inv-loop μ-loop
+apply-requires c κs =
+    let l = c .before .before .before .loop in
+    let e = admitted-next memorySize (l .chip) (c .before .before .before .before .before .before .before .args .stream .now) (l .i) _ (omega arith) (l .inv .2) in
+    (ap (refusal memorySize (l .chip)) (c .before .record-at .ensures) ∙ e .0, l .inv .3 ∙ c .before .before .before .before .before .before .before .pre .1)
+
+chip-after-requires : tie.Need-chip-after-requires Inv-loop μ-loop
+chip-after-requires c κs = search needs
+
+-- the count fits
+room : (c : tie.In-loop Inv-loop μ-loop) → c .before .loop .i + 1 < 2 ^ 64
+room c = omega arith
+
+add-i : tie.Need-add-i Inv-loop μ-loop
+add-i c = omega (arith, room (c .before .before .before .before .before .before))
+
+loop-less : tie.Need-loop-less Inv-loop μ-loop
+loop-less c = omega arith
+
+loop-again : tie.Need-loop-again Inv-loop μ-loop
+loop-again c =
+    let s = c .before .before .before .before .before .before .before .before .before .before .before .args .stream .now in
+    let l = c .before .before .before .before .before .before .before .loop in
+    let n : ℕ = length s / 8 in
+    let r = c .before .before .before .before .before .record-at .ensures in
+    let e = admitted-next memorySize (l .chip) s (l .i) n (omega arith) (l .inv .2) in
+    let next = c .chip-after .ensures ∙ ap (chipAfter (l .chip)) r in
+    let done = c .before .before .before .apply .ensures ∙ ap (λ (x : Record). effect (l .chip) x (l .memory)) r in (
+      omega arith,
+      l .inv .1 ∙ applied-next (l .chip) s (l .i) n (l .memory) (omega arith)
+          ∙ (λ t. applied (sym next t) (recordsFrom s (l .i + 1) (n - (l .i + 1))) (sym done t)),
+      ap (λ (x : Chip). run memorySize x (l .i + 1) (recordsFrom s (l .i + 1) (n - (l .i + 1))) .number) next ∙ e .1,
+      c .before .before .before .apply .kept .1 .1 .0 ∙ l .inv .3,
+    )
+
+same-length : tie.Need-same-length Inv-loop μ-loop
+same-length c = c .before .loop .inv .3
+
+returns : tie.Need-returns Inv-loop μ-loop
+returns c =
+    let s = c .before .before .before .before .before .args .stream .now in
+    let l = c .before .loop in
+    let n : ℕ = length s / 8 in
+    let e : l .i ≡ n = omega arith in
+    sym (l .inv .1 ∙ ap (λ (k : ℕ). applied (l .chip) (recordsFrom s k (n - k)) (l .memory)) e
+    ∙ ap (λ (rs : List Record). applied (l .chip) rs (l .memory)) (records-end s n) ∙ applied-end (l .chip) (l .memory))
+
+pub perform-all-spec : {M : Type 1} → statement M
+perform-all-spec =
+    tie.close
+    (tie.spec
+    Inv-loop
+    μ-loop
+    new-chip-requires
+    loop-holds
+    record-at-requires
+    apply-requires
+    chip-after-requires
+    add-i
+    loop-less
+    loop-again
+    same-length
+    returns)

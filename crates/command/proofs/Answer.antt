@@ -1,0 +1,61 @@
+-- The answer to a command record, and its number.
+use Prim.Native.Nat.{ℕ, _<_}
+use mathlib.Core.Path.{_≡_, refl, sym}
+use mathlib.Core.List.{List}
+use mathlib.Core.Bool.{Bool, true, false, cond}
+use native.Mathlib.Omega.{arith}
+use lib.Dec.{eqb, lit<}
+use borrow.Author.Tests.{eqb-true, eqb-false, eq-eqb, ne-eqb}
+use Rattle.record.specs.Checks.{Numbered}
+use Rattle.screen.specs.declared.Screen.{Screen}
+use Rattle.command.specs.Command.{commandOf, commandRows, refusal, commandAnswer, numberOf}
+use Rattle.command.specs.declared.Command.{Command}
+use Rattle.command.specs.declared.CommandAnswer.the-variants.{Accepted, Refused}
+
+-- 0 is the number of no row
+pub command-numbered : (s : Screen) (left : ℕ) (b : List ℕ) (c : Command) → Numbered (commandRows s left b c)
+unfolding commandRows Numbered
+command-numbered s left b c = (lit< tt, (lit< tt, (lit< tt, (lit< tt, tt))))
+
+answers : (t : Bool) (n : ℕ) (u c : Command) → cond t (Accepted u) (Refused n) ≡ Accepted c → (t ≡ true) × (c ≡ u)
+answers true n u c e = (refl, (cc))
+answers false n u c e = let z : _≡_ {A = ℕ} 0 1 = cc in absurd (omega arith)
+
+refuses-by : (t : Bool) (n k : ℕ) (u : Command) → cond t (Accepted u) (Refused n) ≡ Refused k → (t ≡ false) × (n ≡ k)
+refuses-by true n k u e = let z : _≡_ {A = ℕ} 0 1 = cc in absurd (omega arith)
+refuses-by false n k u e = (refl, (cc))
+
+module _ (s : Screen) (left : ℕ) (b : List ℕ) where
+  pub accepts : refusal s left b ≡ 0 → Accepted (commandOf b) ≡ commandAnswer s left b
+  unfolding commandAnswer
+  accepts e = simp (eq-eqb _ _ e)
+
+  pub refuses : (n : ℕ) → 0 < n → refusal s left b ≡ n → Refused n ≡ commandAnswer s left b
+  unfolding commandAnswer
+  refuses n h e = simp (e, ne-eqb n 0 (λ z. omega arith))
+
+  -- the answer's number is the table's
+  pub number-is : numberOf (commandAnswer s left b) ≡ refusal s left b
+  unfolding commandAnswer numberOf
+  number-is = chosen (eqb (refusal s left b) 0) refl
+    where
+      chosen : (t : Bool) → eqb (refusal s left b) 0 ≡ t → numberOf (cond t (Accepted (commandOf b)) (Refused (refusal s left b))) ≡ refusal s left b
+      chosen true e = sym (eqb-true _ 0 e)
+      chosen false e = refl
+
+  -- an accepted record: its command is its fields, and none of 12 to 15 holds
+  pub command-accepted : (c : Command) → commandAnswer s left b ≡ Accepted c → (c ≡ commandOf b) × (refusal s left b ≡ 0)
+  unfolding commandAnswer
+  command-accepted c e =
+      let a = answers (eqb (refusal s left b) 0) (refusal s left b) (commandOf b) c e in
+      (a .1, eqb-true (refusal s left b) 0 (a .0))
+
+  -- a refused record: the number is the table's, and above 0
+  pub command-refused : (n : ℕ) → commandAnswer s left b ≡ Refused n → (refusal s left b ≡ n) × (0 < n)
+  unfolding commandAnswer
+  command-refused n e =
+      let a = refuses-by (eqb (refusal s left b) 0) (refusal s left b) n (commandOf b) e in
+      (a .1, above (refusal s left b) n (a .1) (eqb-false (refusal s left b) 0 (a .0)))
+    where
+      above : (k j : ℕ) → k ≡ j → (k ≡ 0 → ⊥) → 0 < j
+      above k j p h = omega arith

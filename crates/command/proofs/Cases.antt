@@ -1,0 +1,75 @@
+-- Some commands, computed: their fields, nine values, host words and refusals. Among them 01's B1 and B2, and a move to a smaller x in a later line.
+use Prim.Native.Nat.{ℕ}
+use mathlib.Core.Path.{_≡_, refl}
+use mathlib.Core.List.{List, [], _∷_}
+use Rattle.record.specs.Bytes.{allZero}
+use Rattle.record.specs.Checks.{firstOf}
+use Rattle.screen.specs.Screen.{viewWidth, viewHeight, mainImage, windowImage}
+use Rattle.screen.specs.declared.Screen.{Screen}
+use Rattle.command.specs.Command.{commandOf, surfaceOf, unusedZero, formed, insideImage, placed, lineWords, wordsTaken, commandRows, refusal}
+use Rattle.command.specs.Values.{addressOf, destinationOf, sourceOf, isNegative, lastColumn, lastLine, commandValue, sourceValue, destinationValue, controlValue, blitValues}
+use Rattle.command.specs.declared.Command.{Command}
+
+-- an upright screen with a window of 8 by 4 at byte 1,024
+abbrev screen : ℕ → ℕ → ℕ → Screen
+screen depth width height =
+    record
+    { depth = depth
+    ; rotation = 0
+    ; flag = 1
+    ; width = width
+    ; height = height
+    ; base = 0
+    ; window = record { base = 1024; x = 0; y = 0; width = 8; height = 4 }
+    }
+
+abbrev command : ℕ → ℕ → ℕ → ℕ → ℕ → ℕ → ℕ → ℕ → ℕ → ℕ → Command
+command operation surface raster x y width height sx sy colour =
+    record
+    { operation = operation
+    ; surface = surface
+    ; raster = raster
+    ; x = x
+    ; y = y
+    ; width = width
+    ; height = height
+    ; sx = sx
+    ; sy = sy
+    ; colour = colour
+    }
+
+pub values-hold : (blitValues (screen 8 320 240) (command 0 0 0 10 20 100 150 0 0 1) ≡ 0x0C ∷ 0 ∷ 0x190A ∷ 0xA0 ∷ 0x63 ∷ 0x95 ∷ 0 ∷ 1 ∷ 1 ∷ [])
+    × (blitValues (screen 8 8 1) (command 1 0 0xC 1 0 7 1 0 0 0) ≡ 0xC0003 ∷ 6 ∷ 7 ∷ 4 ∷ 6 ∷ 0 ∷ 0 ∷ 0 ∷ 1 ∷ [])
+    × (blitValues (screen 8 8 4) (command 1 0 6 0 1 4 2 3 0 0) ≡ 0x60003 ∷ 14 ∷ 19 ∷ 4 ∷ 3 ∷ 1 ∷ 0 ∷ 0 ∷ 1 ∷ [])
+    × (blitValues (screen 16 8 4) (command 2 1 0xC 2 1 3 2 0 0 0) ≡ 0xC0000 ∷ 0 ∷ 1044 ∷ 8 ∷ 2 ∷ 1 ∷ 0 ∷ 0 ∷ 0x40001 ∷ [])
+unfolding viewWidth viewHeight mainImage windowImage surfaceOf addressOf destinationOf sourceOf isNegative lastColumn lastLine commandValue sourceValue destinationValue controlValue blitValues
+values-hold = (refl, refl, refl, refl)
+
+-- a write of 3 by 2 pixels takes two words a line at depth 8, and three at 16; another command takes none
+pub words-hold : (wordsTaken (screen 8 8 4) (command 2 0 0xC 0 0 3 2 0 0 0) ≡ 4)
+    × (wordsTaken (screen 16 8 4) (command 2 0 0xC 0 0 3 2 0 0 0) ≡ 6)
+    × (wordsTaken (screen 8 8 4) (command 1 0 0xC 0 0 3 2 0 0 0) ≡ 0)
+unfolding lineWords wordsTaken
+words-hold = (refl, refl, refl)
+
+-- a command record on the main image
+abbrev bytes : ℕ → ℕ → ℕ → ℕ → ℕ → List ℕ
+bytes operation x y width height =
+    operation ∷ 0 ∷ 0 ∷ 0 ∷ x ∷ 0 ∷ y ∷ 0 ∷ width ∷ 0 ∷ height ∷ 0 ∷ 0 ∷ 0 ∷ 0 ∷ 0 ∷ 0 ∷ 0
+    ∷ 0 ∷ 0 ∷ 0 ∷ 0 ∷ 0 ∷ 0 ∷ 0 ∷ 0 ∷ 0 ∷ 0 ∷ 0 ∷ 0 ∷ 0 ∷ 0 ∷ []
+
+-- refusals on an 8 by 4 screen of depth 8 with three host words left: the lowest number that holds
+pub refusals-hold : (refusal (screen 8 8 4) 3 (bytes 0 0 0 8 4) ≡ 0)
+    × (refusal (screen 8 8 4) 3 (bytes 3 0 0 0 4) ≡ 12)
+    × (refusal (screen 8 8 4) 3 (bytes 0 9 0 0 4) ≡ 13)
+    × (refusal (screen 8 8 4) 3 (bytes 2 1 0 8 4) ≡ 14)
+    × (refusal (screen 8 8 4) 3 (bytes 2 0 0 3 2) ≡ 15)
+    × (refusal (screen 8 8 4) 3 (bytes 2 0 0 6 1) ≡ 0)
+unfolding allZero firstOf viewWidth viewHeight mainImage windowImage surfaceOf commandOf unusedZero formed insideImage placed lineWords wordsTaken commandRows refusal
+refusals-hold = (refl, refl, refl, refl, refl, refl)
+
+-- the fields of a record whose bytes are their places
+pub fields-hold : commandOf (0 ∷ 1 ∷ 2 ∷ 3 ∷ 4 ∷ 5 ∷ 6 ∷ 7 ∷ 8 ∷ 9 ∷ 10 ∷ 11 ∷ 12 ∷ 13 ∷ 14 ∷ 15 ∷ 16 ∷ 17 ∷ [])
+    ≡ command 0 1 2 0x0504 0x0706 0x0908 0x0B0A 0x0D0C 0x0F0E 0x1110
+unfolding commandOf
+fields-hold = refl

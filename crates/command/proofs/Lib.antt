@@ -1,0 +1,4 @@
+pub mod Answer
+pub mod Fine
+pub mod Numbers
+pub mod Cases

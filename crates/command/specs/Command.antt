@@ -1,0 +1,102 @@
+-- The command record (01, "Stored records"), and its refusals 12 to 15 (01, "Refusal numbers").
+use Prim.Native.Nat.{ℕ, _+_, _*_, _/_}
+use mathlib.Core.List.{List, [], _∷_}
+use mathlib.Core.Bool.{Bool, not, _&&_, _||_, cond}
+use lib.ListN.{take, drop}
+use lib.Dec.{leb, ltb, eqb}
+use Rattle.record.specs.Bytes.{byteAt, u16At, allZero}
+use Rattle.record.specs.Checks.{Row, row, firstOf}
+use Rattle.screen.specs.Screen.{mainImage, windowImage}
+use Rattle.screen.specs.declared.Image.{Image}
+use Rattle.screen.specs.declared.Screen.{Screen}
+use Rattle.command.specs.declared.Command.{Command}
+use Rattle.command.specs.declared.CommandAnswer.{CommandAnswer}
+use Rattle.command.specs.declared.CommandAnswer.the-variants.{Accepted, Refused}
+
+-- the record's fields
+unfoldable pub commandOf : List ℕ → Command
+commandOf b =
+    record {
+      operation = byteAt b 0;
+      surface = byteAt b 1;
+      raster = byteAt b 2;
+      x = u16At b 4;
+      y = u16At b 6;
+      width = u16At b 8;
+      height = u16At b 10;
+      sx = u16At b 12;
+      sy = u16At b 14;
+      colour = u16At b 16;
+    }
+
+-- operations: 0 fill, 1 move, 2 write
+abbrev pub isFill : Command → Bool
+isFill c = eqb (c .operation) 0
+
+abbrev pub isMove : Command → Bool
+isMove c = eqb (c .operation) 1
+
+abbrev pub isWrite : Command → Bool
+isWrite c = eqb (c .operation) 2
+
+-- surfaces: 0 main, 1 window
+unfoldable pub surfaceOf : Screen → Command → Image
+surfaceOf s c = cond (eqb (c .surface) 0) (mainImage s) (windowImage s)
+
+-- what an operation does not use is zero. Fill: raster code and source; move: colour; write: source and colour
+unfoldable pub unusedZero : Command → Bool
+unusedZero c =
+    cond (isFill c) (eqb (c .raster) 0 && (eqb (c .sx) 0 && eqb (c .sy) 0))
+    (cond (isMove c) (eqb (c .colour) 0)
+    (eqb (c .sx) 0 && (eqb (c .sy) 0 && eqb (c .colour) 0)))
+
+-- not refused by 12: operation, surface, raster code and colour are there, and what must be zero is
+unfoldable pub formed : Screen → List ℕ → Command → Bool
+formed s b c =
+    leb (c .operation) 2
+    && (leb (c .surface) (s .flag)
+    && (leb (c .raster) 15
+    && ((not (eqb (s .depth) 8) || leb (c .colour) 255)
+    && (unusedZero c
+    && (eqb (byteAt b 3) 0
+    && allZero (take 14 (drop 18 b)))))))
+
+-- a rectangle at (x, y) inside an image
+unfoldable pub insideImage : Image → ℕ → ℕ → ℕ → ℕ → Bool
+insideImage i x y width height = leb (x + width) (i .width) && leb (y + height) (i .height)
+
+-- not refused by 14: the destination, and a move's source, is inside the surface
+unfoldable pub placed : Screen → Command → Bool
+placed s c =
+    insideImage (surfaceOf s c) (c .x) (c .y) (c .width) (c .height)
+    && (not (isMove c) || insideImage (surfaceOf s c) (c .sx) (c .sy) (c .width) (c .height))
+
+-- host words of a line: (width + 1) ÷ 2 at depth 8, width at 16
+unfoldable pub lineWords : ℕ → ℕ → ℕ
+lineWords depth width = cond (eqb depth 8) ((width + 1) / 2) width
+
+-- host words that a command takes
+unfoldable pub wordsTaken : Screen → Command → ℕ
+wordsTaken s c = cond (isWrite c) (lineWords (s .depth) (c .width) * c .height) 0
+
+-- rows 12 to 15 for a command record, with so many host words left
+unfoldable pub commandRows : Screen → ℕ → List ℕ → Command → List Row
+commandRows s left b c =
+    row 12 (not (formed s b c))
+    ∷ row 13 (eqb (c .width) 0 || eqb (c .height) 0)
+    ∷ row 14 (not (placed s c))
+    ∷ row 15 (ltb left (wordsTaken s c))
+    ∷ []
+
+-- 0, or why the record is refused
+unfoldable pub refusal : Screen → ℕ → List ℕ → ℕ
+refusal s left b = firstOf (commandRows s left b (commandOf b))
+
+-- the answer to a record
+unfoldable pub commandAnswer : Screen → ℕ → List ℕ → CommandAnswer
+commandAnswer s left b = cond (eqb (refusal s left b) 0) (Accepted (commandOf b)) (Refused (refusal s left b))
+
+-- 01's number of an answer
+unfoldable pub numberOf : CommandAnswer → ℕ
+numberOf (Accepted c) = 0
+numberOf (Refused n) = n

@@ -1,0 +1,54 @@
+use borrow.Author.Needs.{needs}
+use Rattle.command.specs.Command.{commandOf}
+use Rattle.command_code.proofs.command_of.Statement.{statement}
+use Rattle.command_code.proofs.command_of.Tie as tie
+
+shared-slice-read-t3 : tie.Need-shared-slice-read-t3
+shared-slice-read-t3 c = search needs
+
+shared-slice-read-t5 : tie.Need-shared-slice-read-t5
+shared-slice-read-t5 c = search needs
+
+shared-slice-read-t7 : tie.Need-shared-slice-read-t7
+shared-slice-read-t7 c = search needs
+
+u16-at-requires : tie.Need-u16-at-requires
+u16-at-requires c κs = search needs
+
+u16-at-requires-2 : tie.Need-u16-at-requires-2
+u16-at-requires-2 c κs = search needs
+
+u16-at-requires-3 : tie.Need-u16-at-requires-3
+u16-at-requires-3 c κs = search needs
+
+u16-at-requires-4 : tie.Need-u16-at-requires-4
+u16-at-requires-4 c κs = search needs
+
+u16-at-requires-5 : tie.Need-u16-at-requires-5
+u16-at-requires-5 c κs = search needs
+
+u16-at-requires-6 : tie.Need-u16-at-requires-6
+u16-at-requires-6 c κs = search needs
+
+u16-at-requires-7 : tie.Need-u16-at-requires-7
+u16-at-requires-7 c κs = search needs
+
+returns : tie.Need-returns
+unfolding commandOf
+returns c = cc
+
+pub command-of-spec : {M : Type 1} → statement M
+command-of-spec =
+    tie.close
+    (tie.spec
+    shared-slice-read-t3
+    shared-slice-read-t5
+    shared-slice-read-t7
+    u16-at-requires
+    u16-at-requires-2
+    u16-at-requires-3
+    u16-at-requires-4
+    u16-at-requires-5
+    u16-at-requires-6
+    u16-at-requires-7
+    returns)

@@ -1,0 +1,38 @@
+use borrow.Author.Needs.{needs}
+use Rattle.command.specs.Command.{formed}
+use Rattle.command_code.proofs.is_formed.Statement.{statement}
+use Rattle.command_code.proofs.is_formed.Tie as tie
+
+sub-all-zero : tie.Need-sub-all-zero
+sub-all-zero c = search needs
+
+part-all-zero-start : tie.Need-part-all-zero-start
+part-all-zero-start c = search needs
+
+part-all-zero-end : tie.Need-part-all-zero-end
+part-all-zero-end c = search needs
+
+all-zero-requires : tie.Need-all-zero-requires
+all-zero-requires c κs = search needs
+
+is-unused-zero-requires : tie.Need-is-unused-zero-requires
+is-unused-zero-requires c κs = search needs
+
+shared-slice-read-zero : tie.Need-shared-slice-read-zero
+shared-slice-read-zero c = search needs
+
+returns : tie.Need-returns
+unfolding formed
+returns c = simp (c .before .before .before .before .before .is-unused-zero .ensures, c .before .before .before .before .before .before .before .before .all-zero .ensures)
+
+pub is-formed-spec : {M : Type 1} → statement M
+is-formed-spec =
+    tie.close
+    (tie.spec
+    sub-all-zero
+    part-all-zero-start
+    part-all-zero-end
+    all-zero-requires
+    is-unused-zero-requires
+    shared-slice-read-zero
+    returns)

@@ -1,0 +1,21 @@
+use borrow.Author.Needs.{needs}
+use Rattle.command.specs.Command.{placed}
+use Rattle.command_code.proofs.is_placed.Statement.{statement}
+use Rattle.command_code.proofs.is_placed.Tie as tie
+
+surface-of-requires : tie.Need-surface-of-requires
+surface-of-requires c κs = search needs
+
+is-inside-requires : tie.Need-is-inside-requires
+is-inside-requires c κs = search needs
+
+is-inside-requires-2 : tie.Need-is-inside-requires-2
+is-inside-requires-2 c κs = search needs
+
+returns : tie.Need-returns
+unfolding placed
+returns c = simp (c .before .before .before .surface-of .ensures, c .before .before .is-inside .ensures, c .before .is-inside2 .ensures)
+
+pub is-placed-spec : {M : Type 1} → statement M
+is-placed-spec =
+    tie.close (tie.spec surface-of-requires is-inside-requires is-inside-requires-2 returns)

@@ -1,0 +1,140 @@
+-- Cases by computation: B4, lists of commands, and the refusals that speak of the list, the host words and the buffer.
+use Prim.Native.Nat.{ℕ, zero, suc, _*_}
+use mathlib.Core.Path.{_≡_, refl}
+use mathlib.Core.List.{List, [], _∷_, _++_, map}
+use lib.ListN.{replicate, take}
+use Rattle.record.specs.Bytes.{allZero}
+use Rattle.record.specs.Record.{entry, recordBytes, streamBytes}
+use Rattle.record.specs.Checks.{firstOf}
+use Rattle.pixel.specs.Depth.{isDepth}
+use Rattle.screen.specs.Image.{imageEnd, startOf}
+use Rattle.screen.specs.Screen.{memorySize, fieldsOf, wellFormed, panelOk, viewWidth, viewHeight, wholeDwords, mainImage, windowImage, imageOk, windowOk, windowWhole, fieldRows, screenRows}
+use Rattle.screen.specs.Values.{windowX, windowY, originOf, valuesOf}
+use Rattle.screen.specs.Cases.{plain}
+use Rattle.command.specs.Command.{commandOf, surfaceOf, unusedZero, formed, insideImage, placed, lineWords, wordsTaken, commandRows, refusal}
+use Rattle.command.specs.Values.{addressOf, destinationOf, sourceOf, isNegative, lastColumn, lastLine, commandValue, sourceValue, destinationValue, controlValue, blitValues}
+use Rattle.compiler.specs.Stream.{partsFrom, partsOf, recordsWith, screenRecords, dataRecords, commandRecords, drawRecords, recordsFor}
+use Rattle.compiler.specs.Compile.{listRows, firstRefusal, allWords, endRows, refusalOf, compiling, streamOf, bufferAfter, numbersOf}
+use Rattle.compiler.specs.Part.{partFrom, partSize}
+
+-- a screen record, a list, host words, and a buffer of `room` sevens, of which the first `shown` bytes are asked for
+pub record Case : Type 0 where
+  pub screen : List ℕ
+  pub list : List ℕ
+  pub words : List ℕ
+  pub room : ℕ
+  pub shown : ℕ
+
+abbrev case : List ℕ → List ℕ → List ℕ → ℕ → ℕ → Case
+case s l w r n = record { screen = s; list = l; words = w; room = r; shown = n }
+
+-- what compiling gives: its six numbers, where the refused part starts and its length, and the buffer's bytes
+pub record Result : Type 0 where
+  pub numbers : List ℕ
+  pub from : ℕ
+  pub size : ℕ
+  pub bytes : List ℕ
+
+abbrev run : Case → Result
+run c =
+    let old : List ℕ = replicate (c .room) 7 in
+    let r = compiling memorySize (c .screen) (c .list) (c .words) (c .room) in
+    record { numbers = numbersOf r; from = partFrom (c .list) r; size = partSize (c .list) r; bytes = take (c .shown) (bufferAfter memorySize (c .screen) (c .list) (c .words) old) }
+
+abbrev accepted : ℕ → ℕ → List ℕ → Result
+accepted length depth bytes = record { numbers = 0 ∷ 0 ∷ length ∷ depth ∷ 0 ∷ 0 ∷ []; from = 0; size = 0; bytes = bytes }
+
+abbrev refused : ℕ → Result
+refused n = record { numbers = n ∷ 0 ∷ 0 ∷ 0 ∷ 0 ∷ 0 ∷ []; from = 0; size = 0; bytes = 7 ∷ 7 ∷ [] }
+
+abbrev refusedCommand : ℕ → ℕ → Result
+refusedCommand n i = record { numbers = n ∷ i ∷ 0 ∷ 0 ∷ 0 ∷ 0 ∷ []; from = i * 32; size = 32; bytes = 7 ∷ 7 ∷ [] }
+
+-- 320 by 240 at a depth, base 0
+abbrev panel : ℕ → List ℕ
+panel depth = plain depth 0 320 240 0
+
+-- B1's fill; a move by one pixel to the right; a write of three by two pixels
+abbrev fill : List ℕ
+fill = 0 ∷ 0 ∷ 0 ∷ 0 ∷ 10 ∷ 0 ∷ 20 ∷ 0 ∷ 100 ∷ 0 ∷ 150 ∷ 0 ∷ 0 ∷ 0 ∷ 0 ∷ 0 ∷ 1 ∷ replicate 15 0
+
+abbrev move : List ℕ
+move = 1 ∷ 0 ∷ 0xC ∷ 0 ∷ 1 ∷ 0 ∷ 0 ∷ 0 ∷ 7 ∷ 0 ∷ 1 ∷ 0 ∷ replicate 20 0
+
+abbrev write : List ℕ
+write = 2 ∷ 0 ∷ 0xC ∷ 0 ∷ 1 ∷ 0 ∷ 0 ∷ 0 ∷ 3 ∷ 0 ∷ 2 ∷ 0 ∷ replicate 20 0
+
+-- operation 3; a rectangle of no width; one that ends past the surface
+abbrev strange : List ℕ
+strange = 3 ∷ replicate 31 0
+
+abbrev empty : List ℕ
+empty = 0 ∷ 0 ∷ 0 ∷ 0 ∷ 10 ∷ 0 ∷ 20 ∷ 0 ∷ 0 ∷ 0 ∷ 150 ∷ 0 ∷ replicate 20 0
+
+abbrev outside : List ℕ
+outside = 0 ∷ 0 ∷ 0 ∷ 0 ∷ 10 ∷ 0 ∷ 91 ∷ 0 ∷ 100 ∷ 0 ∷ 150 ∷ 0 ∷ replicate 20 0
+
+abbrev times : ℕ → List ℕ → List ℕ
+times zero l = []
+times (suc n) l = l ++ times n l
+
+abbrev screenBytes : ℕ → List ℕ
+screenBytes offset = streamBytes (entry 0x40 0 ∷ entry 0x44 offset ∷ entry 0x50 0 ∷ entry 0x54 0 ∷ entry 0x58 0 ∷ entry 0x5C 0 ∷ [])
+
+-- B1's nine records, and those of the move and of the write with its words
+abbrev fillBytes : List ℕ
+fillBytes = streamBytes (entry 0x8008 0xC ∷ entry 0x800C 0 ∷ entry 0x8010 0x190A ∷ entry 0x8014 0xA0 ∷ entry 0x8018 0x63 ∷ entry 0x801C 0x95 ∷ entry 0x8020 0 ∷ entry 0x8024 1 ∷ entry 0x8000 1 ∷ [])
+
+abbrev moveBytes : List ℕ
+moveBytes = streamBytes (entry 0x8008 0xC0003 ∷ entry 0x800C 6 ∷ entry 0x8010 7 ∷ entry 0x8014 0xA0 ∷ entry 0x8018 6 ∷ entry 0x801C 0 ∷ entry 0x8020 0 ∷ entry 0x8024 0 ∷ entry 0x8000 1 ∷ [])
+
+abbrev writeBytes : List ℕ
+writeBytes = streamBytes (entry 0x8008 0xC0000 ∷ entry 0x800C 0 ∷ entry 0x8010 1 ∷ entry 0x8014 0xA0 ∷ entry 0x8018 2 ∷ entry 0x801C 1 ∷ entry 0x8020 0 ∷ entry 0x8024 0 ∷ entry 0x8000 1 ∷ entry 0x10000 0x201 ∷ entry 0x10000 3 ∷ entry 0x10000 0x504 ∷ entry 0x10000 6 ∷ [])
+
+abbrev fourWords : List ℕ
+fourWords = 0x201 ∷ 3 ∷ 0x504 ∷ 6 ∷ []
+
+-- B4, B1, two commands, three with a write's words, 64 commands; then 1, 2, 10 twice, 11, 12 to 14, 15, 16 and 17
+abbrev cases : List Case
+cases =
+    case (panel 1) [] [] 50 50
+    ∷ case (panel 8) fill [] 122 122
+    ∷ case (panel 8) (fill ++ move) [] 194 194
+    ∷ case (panel 8) (fill ++ write ++ move) fourWords 298 298
+    ∷ case (panel 8) (times 64 fill) [] 4656 0
+    ∷ case [] [] [] 48 2
+    ∷ case (panel 3) (times 65 fill) [] 48 2
+    ∷ case (panel 8) (times 65 fill) [] 4728 2
+    ∷ case (panel 8) (0 ∷ fill) [] 120 2
+    ∷ case (panel 4) fill [] 120 2
+    ∷ case (panel 8) (fill ++ strange) [] 192 2
+    ∷ case (panel 8) (fill ++ empty) [] 192 2
+    ∷ case (panel 8) (outside ++ fill) [] 192 2
+    ∷ case (panel 8) (fill ++ write ++ write) (0x201 ∷ 3 ∷ fourWords) 1000 2
+    ∷ case (panel 8) (fill ++ write) (0 ∷ fourWords) 1000 2
+    ∷ case (panel 8) fill [] 119 2
+    ∷ []
+
+abbrev expected : List Result
+expected =
+    accepted 48 1 (screenBytes 0xA ++ (7 ∷ 7 ∷ []))
+    ∷ accepted 120 8 (screenBytes 0x50 ++ fillBytes ++ (7 ∷ 7 ∷ []))
+    ∷ accepted 192 8 (screenBytes 0x50 ++ fillBytes ++ moveBytes ++ (7 ∷ 7 ∷ []))
+    ∷ accepted 296 8 (screenBytes 0x50 ++ fillBytes ++ writeBytes ++ moveBytes ++ (7 ∷ 7 ∷ []))
+    ∷ accepted 4656 8 []
+    ∷ refused 1
+    ∷ refused 2
+    ∷ refused 10
+    ∷ refused 10
+    ∷ refused 11
+    ∷ refusedCommand 12 1
+    ∷ refusedCommand 13 1
+    ∷ refusedCommand 14 0
+    ∷ refusedCommand 15 2
+    ∷ refused 16
+    ∷ refused 17
+    ∷ []
+
+pub cases-hold : map run cases ≡ expected
+unfolding allZero recordBytes streamBytes firstOf isDepth imageEnd startOf fieldsOf wellFormed panelOk viewWidth viewHeight wholeDwords mainImage windowImage imageOk windowOk windowWhole fieldRows screenRows windowX windowY originOf valuesOf commandOf surfaceOf unusedZero formed insideImage placed lineWords wordsTaken commandRows refusal addressOf destinationOf sourceOf isNegative lastColumn lastLine commandValue sourceValue destinationValue controlValue blitValues partsFrom partsOf recordsWith screenRecords dataRecords commandRecords drawRecords recordsFor listRows firstRefusal allWords endRows refusalOf compiling streamOf bufferAfter numbersOf partFrom partSize
+cases-hold = refl

@@ -1,0 +1,9 @@
+pub mod Lengths
+pub mod Commands
+pub mod FirstPass
+pub mod SecondPass
+pub mod Puts
+pub mod Part
+pub mod Outcome
+pub mod Accepted
+pub mod Cases

@@ -1,0 +1,57 @@
+-- The stream that a screen and a list of commands compile to, as records (01, "Blits": "The stream").
+use Prim.Native.Nat.{ℕ, zero, suc, _*_, _/_}
+use mathlib.Core.List.{List, [], _∷_, _++_}
+use lib.ListN.{length, take, drop}
+use Rattle.record.specs.Record.{entry}
+use Rattle.record.specs.declared.Record.{Record}
+use Rattle.screen.specs.Values.{valuesOf}
+use Rattle.screen.specs.declared.ScreenValues.{ScreenValues}
+use Rattle.screen.specs.declared.Screen.{Screen}
+use Rattle.command.specs.Command.{commandOf, wordsTaken}
+use Rattle.command.specs.Values.{blitRegisters, blitValues}
+use Rattle.command.specs.declared.Command.{Command}
+
+-- a list of n parts of so many bytes, from part i on
+unfoldable pub partsFrom : ℕ → List ℕ → ℕ → ℕ → List (List ℕ)
+partsFrom size list i zero = []
+partsFrom size list i (suc n) = take size (drop (i * size) list) ∷ partsFrom size list (suc i) n
+
+-- the list's commands
+unfoldable pub partsOf : ℕ → List ℕ → List (List ℕ)
+partsOf size list = partsFrom size list 0 (length list / size)
+
+-- records of register numbers and their values
+unfoldable pub recordsWith : List ℕ → List ℕ → List Record
+recordsWith [] vs = []
+recordsWith (n ∷ ns) [] = []
+recordsWith (n ∷ ns) (v ∷ vs) = entry n v ∷ recordsWith ns vs
+
+-- main start, main offset, window start, window offset, X, Y (002 sections 7.4 and 8.1)
+abbrev pub screenRegisters : List ℕ
+screenRegisters = 0x40 ∷ 0x44 ∷ 0x50 ∷ 0x54 ∷ 0x58 ∷ 0x5C ∷ []
+
+abbrev pub sixValues : ScreenValues → List ℕ
+sixValues v = v .main .start ∷ v .main .offset ∷ v .window .start ∷ v .window .offset ∷ v .x ∷ v .y ∷ []
+
+unfoldable pub screenRecords : Screen → List Record
+screenRecords s = recordsWith screenRegisters (sixValues (valuesOf s))
+
+-- a data word is a record with number 10000h
+unfoldable pub dataRecords : List ℕ → List Record
+dataRecords [] = []
+dataRecords (w ∷ ws) = entry 0x10000 w ∷ dataRecords ws
+
+-- a command's nine records, then a write's data words
+unfoldable pub commandRecords : Screen → Command → List ℕ → List Record
+commandRecords s c words = recordsWith blitRegisters (blitValues s c) ++ dataRecords words
+
+-- the records of commands, which take the host words in order
+unfoldable pub drawRecords : Screen → List ℕ → List (List ℕ) → List Record
+drawRecords s words [] = []
+drawRecords s words (b ∷ bs) =
+    let n = wordsTaken s (commandOf b) in
+    commandRecords s (commandOf b) (take n words) ++ drawRecords s (drop n words) bs
+
+-- the whole stream
+unfoldable pub recordsFor : Screen → List (List ℕ) → List ℕ → List Record
+recordsFor s commands words = screenRecords s ++ drawRecords s words commands

@@ -1,0 +1,19 @@
+use Rattle.record.proofs.Checks.{row-fails, row-passes, rows-end}
+use Rattle.compiler.specs.Compile.{listRows}
+use Rattle.compiler_code.proofs.list_fault.Statement.{statement}
+use Rattle.compiler_code.proofs.list_fault.Tie as tie
+
+returns : tie.Need-returns
+unfolding listRows
+returns c = row-fails _ (c .if1 .taken)
+
+returns-2 : tie.Need-returns-2
+unfolding listRows
+returns-2 c = row-passes 10 _ (c .before .before .if1 .left) (row-fails _ (c .if2 .taken))
+
+returns-3 : tie.Need-returns-3
+unfolding listRows
+returns-3 c = row-passes 10 _ (c .before .before .if1 .left) (row-passes 11 _ (c .if2 .left) rows-end)
+
+pub list-fault-spec : {M : Type 1} → statement M
+list-fault-spec = tie.close (tie.spec returns returns-2 returns-3)

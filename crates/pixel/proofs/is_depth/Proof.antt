@@ -1,0 +1,11 @@
+use Rattle.pixel.specs.Depth.{isDepth}
+use borrow.Author.Needs.{needs}
+use Rattle.pixel.proofs.is_depth.Statement.{statement}
+use Rattle.pixel.proofs.is_depth.Tie as tie
+
+returns : tie.Need-returns
+unfolding isDepth
+returns c = search needs
+
+pub is-depth-spec : {M : Type 1} → statement M
+is-depth-spec = tie.close (tie.spec returns)

@@ -1,0 +1,5 @@
+pub mod Choice
+pub mod Checks
+pub mod Stores
+pub mod Records
+pub mod Zero

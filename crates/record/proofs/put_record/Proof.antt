@@ -1,0 +1,39 @@
+use Rattle.record.proofs.Stores.{record-stored}
+use borrow.Author.Needs.{needs}
+use Rattle.record.proofs.put_record.Statement.{statement}
+use Rattle.record.proofs.put_record.Tie as tie
+
+cast-put-number : tie.Need-cast-put-number
+cast-put-number c = search needs
+
+put-number-requires : tie.Need-put-number-requires
+put-number-requires c κs = search needs
+
+add-put-number : tie.Need-add-put-number
+add-put-number c = search needs
+
+cast-put-number-2 : tie.Need-cast-put-number-2
+cast-put-number-2 c = search needs
+
+put-number-requires-2 : tie.Need-put-number-requires-2
+put-number-requires-2 c κs = search needs
+
+same-length : tie.Need-same-length
+same-length c = search needs
+
+returns : tie.Need-returns
+returns c =
+    let a = c .before .before .before .before .before .before .before .before .before .before .before .args in
+    record-stored (a .buffer .now) (a .at) (a .r) (c .before .before .before .before .before .before .before .put-number .ensures) (c .before .before .put-number2 .ensures)
+
+pub put-record-spec : {M : Type 1} → statement M
+put-record-spec =
+    tie.close
+    (tie.spec
+    cast-put-number
+    put-number-requires
+    add-put-number
+    cast-put-number-2
+    put-number-requires-2
+    same-length
+    returns)

@@ -1,0 +1,38 @@
+-- Refusals in order (01, "Refusal numbers, also the order of checking"): the first number of a table of checks.
+use Prim.Native.Nat.{ℕ, _<_}
+use mathlib.Core.Path.{_≡_}
+use mathlib.Core.Bool.{Bool, true, false, cond}
+use mathlib.Core.List.{List, [], _∷_, _++_}
+
+-- a row of the table: its number, and whether what it refuses is there
+pub record Row : Type 0 where
+  pub number : ℕ
+  pub fails : Bool
+
+abbrev pub row : ℕ → Bool → Row
+row n b = record { number = n; fails = b }
+
+-- the number of the first row that fails; 0 where none does
+unfoldable pub firstOf : List Row → ℕ
+firstOf [] = 0
+firstOf (r ∷ rs) = cond (r .fails) (r .number) (firstOf rs)
+
+-- no row fails
+unfoldable pub AllPass : List Row → Type 0
+AllPass [] = Unit {0}
+AllPass (r ∷ rs) = (r .fails ≡ false) × AllPass rs
+
+-- a row with the number n fails, and all rows before it pass
+pub record FirstFails (rows : List Row) (n : ℕ) : Type 0 where
+  pub before : List Row
+  pub at : Row
+  pub after : List Row
+  pub cut : rows ≡ before ++ (at ∷ after)
+  pub earlier : AllPass before
+  pub fails : at .fails ≡ true
+  pub numbered : at .number ≡ n
+
+-- 0 is the number of no row: it says "accepted"
+unfoldable pub Numbered : List Row → Type 0
+Numbered [] = Unit {0}
+Numbered (r ∷ rs) = (0 < r .number) × Numbered rs

@@ -1,0 +1,5 @@
+pub mod Image
+pub mod Screen
+pub mod Values
+pub mod Fields
+pub mod Cases

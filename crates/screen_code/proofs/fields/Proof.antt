@@ -1,0 +1,58 @@
+use borrow.Author.Needs.{needs}
+use Rattle.screen.specs.Screen.{fieldsOf}
+use Rattle.screen_code.proofs.fields.Statement.{statement}
+use Rattle.screen_code.proofs.fields.Tie as tie
+
+u32-at-requires : tie.Need-u32-at-requires
+u32-at-requires c κs = search needs
+
+u16-at-requires : tie.Need-u16-at-requires
+u16-at-requires c κs = search needs
+
+u16-at-requires-2 : tie.Need-u16-at-requires-2
+u16-at-requires-2 c κs = search needs
+
+u16-at-requires-3 : tie.Need-u16-at-requires-3
+u16-at-requires-3 c κs = search needs
+
+u16-at-requires-4 : tie.Need-u16-at-requires-4
+u16-at-requires-4 c κs = search needs
+
+shared-slice-read-t9 : tie.Need-shared-slice-read-t9
+shared-slice-read-t9 c = search needs
+
+shared-slice-read-t11 : tie.Need-shared-slice-read-t11
+shared-slice-read-t11 c = search needs
+
+shared-slice-read-t13 : tie.Need-shared-slice-read-t13
+shared-slice-read-t13 c = search needs
+
+u16-at-requires-5 : tie.Need-u16-at-requires-5
+u16-at-requires-5 c κs = search needs
+
+u16-at-requires-6 : tie.Need-u16-at-requires-6
+u16-at-requires-6 c κs = search needs
+
+u32-at-requires-2 : tie.Need-u32-at-requires-2
+u32-at-requires-2 c κs = search needs
+
+returns : tie.Need-returns
+unfolding fieldsOf
+returns c = cc
+
+pub fields-spec : {M : Type 1} → statement M
+fields-spec =
+    tie.close
+    (tie.spec
+    u32-at-requires
+    u16-at-requires
+    u16-at-requires-2
+    u16-at-requires-3
+    u16-at-requires-4
+    shared-slice-read-t9
+    shared-slice-read-t11
+    shared-slice-read-t13
+    u16-at-requires-5
+    u16-at-requires-6
+    u32-at-requires-2
+    returns)

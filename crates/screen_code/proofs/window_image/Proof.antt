@@ -1,0 +1,14 @@
+use borrow.Author.Needs.{needs}
+use Rattle.screen.specs.Screen.{windowImage}
+use Rattle.screen_code.proofs.window_image.Statement.{statement}
+use Rattle.screen_code.proofs.window_image.Tie as tie
+
+line-bytes-requires : tie.Need-line-bytes-requires
+line-bytes-requires c κs = search needs
+
+returns : tie.Need-returns
+unfolding windowImage
+returns c = cc
+
+pub window-image-spec : {M : Type 1} → statement M
+window-image-spec = tie.close (tie.spec line-bytes-requires returns)

@@ -1,0 +1,322 @@
+// The screen record, and the six screen register values.
+ghost use mathlib.Core.Path.{_≡_};
+ghost use Prim.Native.Nat.{_<_};
+ghost use lib.ListN.{length};
+ghost use Rattle.record.specs.Checks.{firstOf};
+ghost use Rattle.screen.specs.Image.{lineBytes, imageEnd, startOf};
+ghost use Rattle.screen.specs.Screen.{fieldsOf, wellFormed, panelOk, viewWidth, viewHeight, wholeDwords, mainImage, windowImage, imageOk, windowOk, windowWhole, fieldRows, screenRows, screenOf, numberOf, memorySize};
+ghost use Rattle.screen.specs.Values.{windowX, windowY, originOf, valuesOf, edges};
+use screen::Image;
+use screen::Origin;
+use screen::Screen;
+use screen::ScreenAnswer;
+use screen::ScreenValues;
+use screen::Window;
+
+// The record's fields.
+fn fields(b: &[u8]) -> Screen
+    requires { ⌜ length (now b) ≡ 32 ⌝ }
+    ensures { λ r. ⌜ r ≡ fieldsOf (now (b .entry)) ⌝ }
+{
+    let window = Window {
+        base: record::u32_at(b, 12),
+        x: record::u16_at(b, 16),
+        y: record::u16_at(b, 18),
+        width: record::u16_at(b, 20),
+        height: record::u16_at(b, 22),
+    };
+    Screen {
+        depth: b[0],
+        rotation: b[1],
+        flag: b[2],
+        width: record::u16_at(b, 4),
+        height: record::u16_at(b, 6),
+        base: record::u32_at(b, 8),
+        window,
+    }
+}
+
+// Refusal 1: whether the record has its length, a flag of 0 or 1, and zero where it must be.
+fn is_well_formed(b: &[u8]) -> bool
+    ensures { λ r. ⌜ r ≡ wellFormed (now (b .entry)) ⌝ }
+{
+    if b.len() != 32 {
+        return false;
+    }
+    let rest = record::all_zero(&b[24..32]);
+    let window = record::all_zero(&b[12..24]);
+    (b[2] <= 1) & ((b[3] == 0) & (rest & ((b[2] != 0) | window)))
+}
+
+// Refusal 4.
+pub fn is_panel(width: u32, height: u32) -> bool
+    ensures { λ r. ⌜ r ≡ panelOk width height ⌝ }
+{
+    (width % 8 == 0) & ((8 <= width) & ((width <= 1024) & ((1 <= height) & (height <= 1024))))
+}
+
+pub fn view_width(rotation: u32, width: u32, height: u32) -> u32
+    ensures { λ r. ⌜ r ≡ viewWidth rotation width height ⌝ }
+{
+    if (rotation == 1) | (rotation == 3) {
+        height
+    } else {
+        width
+    }
+}
+
+pub fn view_height(rotation: u32, width: u32, height: u32) -> u32
+    ensures { λ r. ⌜ r ≡ viewHeight rotation width height ⌝ }
+{
+    if (rotation == 1) | (rotation == 3) {
+        width
+    } else {
+        height
+    }
+}
+
+// Whether n is a multiple of 32 ÷ depth.
+pub fn is_whole(depth: u32, n: u32) -> bool
+    ensures { λ r. ⌜ r ≡ wholeDwords depth n ⌝ }
+{
+    let k = pixel::per_dword(depth);
+    record::remainder(n as u64, k as u64) == 0
+}
+
+// The bytes of n pixels.
+fn line_bytes(depth: u8, n: u16) -> u32
+    ensures { λ r. ⌜ r ≡ lineBytes depth n ⌝ }
+{
+    (n as u32) * (depth as u32) / 8
+}
+
+// The main image.
+pub fn main_image(s: Screen) -> Image
+    ensures { λ r. ⌜ r ≡ mainImage s ⌝ }
+{
+    let width = view_width(s.rotation as u32, s.width as u32, s.height as u32) as u16;
+    let height = view_height(s.rotation as u32, s.width as u32, s.height as u32) as u16;
+    let line = line_bytes(s.depth, width);
+    Image {
+        base: s.base,
+        line,
+        width,
+        height,
+    }
+}
+
+// The window's image.
+pub fn window_image(s: Screen) -> Image
+    ensures { λ r. ⌜ r ≡ windowImage s ⌝ }
+{
+    let w = s.window;
+    let line = line_bytes(s.depth, w.width);
+    Image {
+        base: w.base,
+        line,
+        width: w.width,
+        height: w.height,
+    }
+}
+
+// One past the byte of the image's last shown pixel.
+fn image_end(depth: u8, i: Image) -> u64
+    ensures { λ r. ⌜ r ≡ imageEnd depth i ⌝ }
+{
+    let lines = record::minus(i.height as u64, 1);
+    i.base as u64 + lines * (i.line as u64) + line_bytes(depth, i.width) as u64
+}
+
+// Refusals 6 and 9: whether the image lies in the memory, on a dword.
+fn is_image(memory: u64, depth: u8, i: Image) -> bool
+    ensures { λ r. ⌜ r ≡ imageOk memory depth i ⌝ }
+{
+    (i.base % 4 == 0) & (image_end(depth, i) <= memory)
+}
+
+// Refusal 7: whether the window has pixels, and lies in the view.
+fn is_window(s: Screen) -> bool
+    ensures { λ r. ⌜ r ≡ windowOk s ⌝ }
+{
+    let w = s.window;
+    let view = main_image(s);
+    let right = w.x as u32 + w.width as u32;
+    let bottom = w.y as u32 + w.height as u32;
+    (1 <= w.width)
+        & ((1 <= w.height) & ((right <= view.width as u32) & (bottom <= view.height as u32)))
+}
+
+// Refusal 8: whether window x and width are whole dwords.
+fn is_window_whole(s: Screen) -> bool
+    ensures { λ r. ⌜ r ≡ windowWhole s ⌝ }
+{
+    let w = s.window;
+    is_whole(s.depth as u32, w.x as u32) & is_whole(s.depth as u32, w.width as u32)
+}
+
+// The first of 2 to 9 that a screen's fields give in a memory of so many bytes; 0 for none.
+fn first_fault(memory: u64, s: Screen) -> u32
+    ensures { λ r. ⌜ r ≡ firstOf (fieldRows memory s) ⌝ }
+{
+    let main = main_image(s);
+    let window = window_image(s);
+    let windowed = s.flag == 1;
+    if !pixel::is_depth(s.depth as u32) {
+        return 2;
+    }
+    if 3 < s.rotation {
+        return 3;
+    }
+    if !is_panel(s.width as u32, s.height as u32) {
+        return 4;
+    }
+    if !is_whole(s.depth as u32, main.width as u32) {
+        return 5;
+    }
+    if !is_image(memory, s.depth, main) {
+        return 6;
+    }
+    if windowed & !is_window(s) {
+        return 7;
+    }
+    if windowed & !is_window_whole(s) {
+        return 8;
+    }
+    if windowed & !is_image(memory, s.depth, window) {
+        return 9;
+    }
+    0
+}
+
+// The screen that a record says, or the first refusal number of 1 to 9.
+pub fn read_screen(bytes: &[u8]) -> ScreenAnswer
+    ensures { λ r. ⌜ r ≡ screenOf memorySize (now (bytes .entry)) ⌝ }
+    ensures { λ r. ⌜ numberOf r ≡ firstOf (screenRows memorySize (now (bytes .entry))) ⌝ }
+{
+    if !is_well_formed(bytes) {
+        return ScreenAnswer::Refused(1);
+    }
+    let s = fields(bytes);
+    let n = first_fault(262144, s);
+    if n == 0 {
+        return ScreenAnswer::Accepted(s);
+    }
+    ScreenAnswer::Refused(n)
+}
+
+// The start register of an image.
+fn start_of(rotation: u8, depth: u8, i: Image) -> u64
+    ensures { λ r. ⌜ r ≡ startOf rotation depth i ⌝ }
+{
+    let base = i.base as u64;
+    let width = i.width as u64;
+    let height = i.height as u64;
+    let bits = depth as u64;
+    if rotation == 0 {
+        return base / 4;
+    }
+    if rotation == 1 {
+        return record::minus((base + width * bits / 8) / 4, 1);
+    }
+    if rotation == 2 {
+        return record::minus((base + width * height * bits / 8) / 4, 1);
+    }
+    (base + record::minus(height, 1) * width * bits / 8) / 4
+}
+
+// Start and line offset of an image.
+fn origin_of(rotation: u8, depth: u8, i: Image) -> Origin
+    ensures { λ r. ⌜ r ≡ originOf rotation depth i ⌝ }
+{
+    Origin {
+        start: start_of(rotation, depth, i),
+        offset: i.line as u64 / 4,
+    }
+}
+
+// A position register.
+fn edges_of(start: u64, end: u64) -> u64
+    requires { ⌜ (start < 4294967296) × (end < 4294967296) ⌝ }
+    ensures { λ r. ⌜ r ≡ edges start end ⌝ }
+{
+    start + 65536 * end
+}
+
+// The X position register of a window on a panel of a width, k pixels to a dword.
+fn window_x(rotation: u8, k: u32, panel: u16, w: Window) -> u64
+    ensures { λ r. ⌜ r ≡ windowX rotation k panel w ⌝ }
+{
+    let per = k as u64;
+    let x = w.x as u64;
+    let y = w.y as u64;
+    let right = record::minus(panel as u64, x);
+    let above = record::minus(panel as u64, y);
+    if rotation == 0 {
+        let last = record::minus(x + w.width as u64, 1);
+        return edges_of(record::quotient(x, per), record::quotient(last, per));
+    }
+    if rotation == 1 {
+        return edges_of(y, record::minus(y + w.height as u64, 1));
+    }
+    if rotation == 2 {
+        let first = record::minus(right, w.width as u64);
+        let last = record::minus(right, 1);
+        return edges_of(record::quotient(first, per), record::quotient(last, per));
+    }
+    edges_of(
+        record::minus(above, w.height as u64),
+        record::minus(above, 1),
+    )
+}
+
+// The Y position register of a window on a panel of a height, k pixels to a dword.
+fn window_y(rotation: u8, k: u32, panel: u16, w: Window) -> u64
+    ensures { λ r. ⌜ r ≡ windowY rotation k panel w ⌝ }
+{
+    let per = k as u64;
+    let x = w.x as u64;
+    let y = w.y as u64;
+    let right = record::minus(panel as u64, x);
+    let below = record::minus(panel as u64, y);
+    if rotation == 0 {
+        return edges_of(y, record::minus(y + w.height as u64, 1));
+    }
+    if rotation == 1 {
+        let first = record::minus(right, w.width as u64);
+        let end = record::quotient(right, per);
+        return edges_of(record::quotient(first, per), record::minus(end, 1));
+    }
+    if rotation == 2 {
+        return edges_of(
+            record::minus(below, w.height as u64),
+            record::minus(below, 1),
+        );
+    }
+    let last = record::minus(x + w.width as u64, 1);
+    edges_of(record::quotient(x, per), record::quotient(last, per))
+}
+
+// The six screen register values of a screen.
+pub fn screen_values(s: Screen) -> ScreenValues
+    ensures { λ r. ⌜ r ≡ valuesOf s ⌝ }
+{
+    let main = origin_of(s.rotation, s.depth, main_image(s));
+    if s.flag == 0 {
+        let window = Origin {
+            start: 0,
+            offset: 0,
+        };
+        return ScreenValues {
+            main,
+            window,
+            x: 0,
+            y: 0,
+        };
+    }
+    let k = pixel::per_dword(s.depth as u32);
+    let w = s.window;
+    let window = origin_of(s.rotation, s.depth, window_image(s));
+    let x = window_x(s.rotation, k, s.width, w);
+    let y = window_y(s.rotation, k, s.height, w);
+    ScreenValues { main, window, x, y }
+}

@@ -1,0 +1,121 @@
+-- Drawing in one call: what compiling and playing give together, in terms of the sheet.
+use mathlib.Core.Path.{_≡_, refl, sym, ap, subst, _∙_}
+use mathlib.Core.Bool.{Bool, true, false, true≢false}
+use mathlib.Core.List.{List}
+use Prim.Native.Nat.{ℕ, _-_, _≤_}
+use native.Mathlib.Nat.{sub-zero}
+use native.Mathlib.Omega.{arith}
+use lib.Dec.{eqb}
+use lib.ListN.{length, take}
+use borrow.Author.Tests.{eq-eqb, ne-eqb}
+use Rattle.screen.specs.Screen.{memorySize, fieldsOf}
+use Rattle.screen.specs.Values.{valuesOf}
+use Rattle.screen.specs.declared.ScreenValues.{ScreenValues}
+use Rattle.record.specs.Record.{streamBytes}
+use Rattle.record.proofs.Stores.{length-stream, length-over}
+use Rattle.compiler.specs.Stream.{partsOf, recordsFor}
+use Rattle.compiler.specs.Compile.{commandSize, streamOf, Compiling, compiling, bufferAfter, compilingOf, answerOf}
+use Rattle.compiler.specs.declared.Compiled.{Compiled}
+use Rattle.compiler.specs.declared.Compiled.the-variants as compiled
+use Rattle.compiler.proofs.Accepted.{compiled-says}
+use Rattle.chip.specs.Play.{Playing, playing, played, playingOf, answerOf as chip·answerOf}
+use Rattle.chip.specs.declared.Played.{Played}
+use Rattle.chip.specs.declared.Played.the-variants as played
+use Rattle.unit.specs.Sheet.{sheetAfter}
+use Rattle.unit.specs.Demands.{AllBelow, DrawnTruly, streamGiven}
+use Rattle.unit.specs.Draw.{Drawing, refusedBy, drawing, memoryDrawn, streamDrawn, drawingOf}
+use Rattle.unit.specs.declared.Drawn.{Drawn}
+use Rattle.unit.specs.declared.Drawn.the-variants.{Accepted, Refused}
+use Rattle.unit.proofs.Demands.{demand-3, values-given}
+
+-- which of the two answers
+abbrev isAccepted : Compiled → Bool
+isAccepted (compiled.Accepted n d r f) = true
+isAccepted (compiled.Refused n i) = false
+
+abbrev isPlayed : Played → Bool
+isPlayed (played.Accepted v) = true
+isPlayed (played.Refused n i) = false
+
+-- a refusal has a number above 0, and an acceptance 0
+refused-number : (n i : ℕ) (c : Compiling) → compiled.Refused n i ≡ answerOf c → c .number ≡ 0 → ⊥
+unfolding answerOf
+refused-number n i c e z = true≢false (sym (ap isAccepted (rw (eq-eqb (c .number) 0 z) at e)))
+
+not-played : (n i : ℕ) (p : Playing) → p .number ≡ 0 → played.Refused n i ≡ chip·answerOf p → ⊥
+unfolding chip·answerOf
+not-played n i p z e = true≢false (sym (ap isPlayed (rw (eq-eqb (p .number) 0 z) at e)))
+
+played-values : (v : ScreenValues) (p : Playing) → played.Accepted v ≡ chip·answerOf p → playingOf (played.Accepted v) ≡ p → v ≡ p .values
+unfolding playingOf
+played-values v p e f = ap (λ (x : Playing). x .values) f
+
+module _ (bytes list words old memory : List ℕ) where
+  -- an answer, a stream buffer and a memory that are what drawing promises
+  abbrev pub Drew : Drawn → List ℕ → List ℕ → Type 0
+  Drew r stream new =
+      (drawingOf r ≡ drawing memorySize bytes list words (length old) memory)
+      × ((stream ≡ streamDrawn memorySize bytes list words old memory)
+      × (new ≡ memoryDrawn memorySize bytes list words (length old) memory))
+
+  abbrev c : Compiling
+  c = compiling memorySize bytes list words (length old)
+
+  -- a memory of another size
+  pub other-size : (length memory ≡ memorySize → ⊥) → Drew (Refused 18 0) old memory
+  unfolding drawing streamDrawn memoryDrawn drawingOf
+  other-size n = rw (ne-eqb (length memory) memorySize n) (refl, (refl, refl))
+
+  module _ (len : length memory ≡ memorySize) (stream : List ℕ) (buffer : stream ≡ bufferAfter memorySize bytes list words old) where
+    -- compiling refuses
+    pub compile-refused : (n i : ℕ) → compilingOf (compiled.Refused n i) ≡ c → compiled.Refused n i ≡ answerOf c → Drew (Refused n i) stream memory
+    unfolding drawing streamDrawn memoryDrawn drawingOf sheetAfter compilingOf
+    compile-refused n i e f =
+        let some = ne-eqb (c .number) 0 (refused-number n i c f) in
+        rw (eq-eqb (length memory) memorySize len, some)
+        ((λ t. refusedBy (e t .number) (e t .place)), (buffer, refl))
+
+    module _ (n d r f : ℕ) (e : compilingOf (compiled.Accepted n d r f) ≡ c) where
+      none : c .number ≡ 0
+      unfolding compilingOf
+      none = sym (ap (λ (x : Compiling). x .number) e)
+
+      size : n ≡ c .length
+      unfolding compilingOf
+      size = ap (λ (x : Compiling). x .length) e
+
+      -- the stream lies in the buffer
+      pub part-fits : n ≤ length stream
+      unfolding bufferAfter streamOf
+      part-fits =
+          let a = compiled-says memorySize bytes list words (length old) none in
+          let records = recordsFor (fieldsOf bytes) (partsOf commandSize list) words in
+          let room : length (streamBytes records) ≤ length old = omega (arith, length-stream records, a .fits) in
+          let kept : length stream ≡ length old = ap length buffer ∙ rw (eq-eqb (c .number) 0 none) (length-over old (streamBytes records) room) in
+          omega (arith, kept, a .fits, size, ap (λ (x : Compiling). x .length) (a .given))
+
+      module _ (byte-screen : AllBelow 256 bytes) (byte-list : AllBelow 256 list) (word-list : AllBelow 65536 words) (byte-memory : AllBelow 256 memory)
+          (part : List ℕ) (cut : part ≡ take (n - 0) stream) where
+        -- the part that is played is the stream in the length that compiling gave
+        given : part ≡ streamGiven bytes list words old
+        given = cut ∙ ap (λ (k : ℕ). take k stream) (sub-zero n) ∙ (λ t. take (size t) (buffer t))
+
+        truly : DrawnTruly bytes list words old memory
+        truly = demand-3 bytes list words old memory byte-screen byte-list word-list byte-memory len none
+
+        zero : playing memorySize part memory .number ≡ 0
+        zero = ap (λ (x : List ℕ). playing memorySize x memory .number) given ∙ truly .not-refused
+
+        -- playing does not refuse
+        pub play-accepts : (k i : ℕ) → played.Refused k i ≡ chip·answerOf (playing memorySize part memory) → ⊥
+        play-accepts k i h = not-played k i (playing memorySize part memory) zero h
+
+        pub draw-accepted : (v : ScreenValues) (new : List ℕ) → playingOf (played.Accepted v) ≡ playing memorySize part memory → new ≡ played memorySize part memory
+            → Drew (Accepted n v) stream new
+        unfolding drawing streamDrawn memoryDrawn drawingOf playingOf
+        draw-accepted v new p m =
+            let values : v ≡ valuesOf (fieldsOf bytes) =
+                ap (λ (x : Playing). x .values) p ∙ ap (λ (x : List ℕ). playing memorySize x memory .values) given
+                ∙ values-given bytes list words old memory byte-list word-list byte-memory len none in
+            rw (eq-eqb (length memory) memorySize len, eq-eqb (c .number) 0 none)
+            ((λ t. record { number = 0; place = 0; length = size t; values = values t }), (buffer, m ∙ ap (λ (x : List ℕ). played memorySize x memory) given ∙ truly .same-bytes))

@@ -1,0 +1,13 @@
+pub mod Cases
+pub mod Shown
+pub mod Rectangles
+pub mod Painted
+pub mod Started
+pub mod Tables
+pub mod Drawable
+pub mod Listed
+pub mod Points
+pub mod Whole
+pub mod Demands
+pub mod Draw
+pub mod Show

@@ -1,0 +1,76 @@
+-- The three demands, as the customer wrote them.
+use Prim.Native.Nat.{ℕ, _<_}
+use mathlib.Core.Path.{_≡_}
+use mathlib.Core.List.{List}
+use mathlib.Core.Logic.{_↔_}
+use lib.ListN.{length, getD, take}
+use Rattle.record.specs.Checks.{Row, firstOf, AllPass, FirstFails}
+use Rattle.screen.specs.Screen.{memorySize, fieldsOf, screenRows}
+use Rattle.screen.specs.Values.{valuesOf}
+use Rattle.screen.specs.declared.ScreenValues.{ScreenValues}
+use Rattle.view.specs.Walk.{placeOf}
+use Rattle.view.specs.Shows.{Shows, shownBit}
+use Rattle.reader.specs.Read.{readRows, reading}
+use Rattle.reader.specs.declared.Display.{Display}
+use Rattle.compiler.specs.Compile.{compiling, bufferAfter}
+use Rattle.chip.specs.Play.{playing, played}
+use Rattle.unit.specs.Sheet.{sheetAfter, sheetShows}
+use Rattle.unit.specs.Tables.{compileRows, playRows}
+
+-- numbers below a limit: bytes below 256, host words below 65,536
+abbrev pub AllBelow : ℕ → List ℕ → Type 0
+AllBelow limit xs = (k : ℕ) → getD xs k 0 < limit
+
+-- Demand 1 of an answer's number and a table: "accepted exactly when document 01's limits hold, else refused with the first
+-- number in 01's order"
+pub record Decided (number : ℕ) (rows : List Row) : Type 0 where
+  pub accepted : (number ≡ 0) ↔ AllPass rows
+  pub refused : (n : ℕ) → 0 < n → (number ≡ n) ↔ FirstFails rows n
+
+-- Demand 1: each of compiling, playing and the point reader is decided by its table, and a refusal leaves every lent buffer
+-- as it was
+pub record Demand1 : Type 0 where
+  pub compiled : (bytes list words : List ℕ) (room : ℕ) → Decided (compiling memorySize bytes list words room .number) (compileRows memorySize bytes list words room)
+  pub stream-kept : (bytes list words old : List ℕ) → 0 < compiling memorySize bytes list words (length old) .number → bufferAfter memorySize bytes list words old ≡ old
+  pub plays : (stream memory : List ℕ) → Decided (playing memorySize stream memory .number) (playRows memorySize stream memory)
+  pub memory-kept : (stream memory : List ℕ) → 0 < playing memorySize stream memory .number → played memorySize stream memory ≡ memory
+  pub reads : (d : Display) (v : ScreenValues) (p q : ℕ) (memory : List ℕ) → Decided (reading memorySize d v p q memory .number) (readRows memorySize d v p q memory)
+
+-- Demand 2: "Read back through the chip's walk, each panel point shows the one image pixel that the rotation names, inside
+-- memory, the small window over the main", from the register values of an accepted screen record
+abbrev pub Demand2 : Type 0
+Demand2 =
+    (bytes : List ℕ) (p q : ℕ) → firstOf (screenRows memorySize bytes) ≡ 0
+    → p < fieldsOf bytes .width → q < fieldsOf bytes .height
+    → Shows memorySize (fieldsOf bytes .depth)
+    (placeOf (fieldsOf bytes .depth) (fieldsOf bytes .rotation) (fieldsOf bytes .flag) (valuesOf (fieldsOf bytes)) p q)
+    (shownBit (fieldsOf bytes) p q)
+
+-- the stream in the length that compiling gave
+abbrev pub streamGiven : List ℕ → List ℕ → List ℕ → List ℕ → List ℕ
+streamGiven bytes list words buffer =
+    take (compiling memorySize bytes list words (length buffer) .length) (bufferAfter memorySize bytes list words buffer)
+
+-- compiling's depth, rotation and flag, and the panel size
+abbrev pub displayGiven : List ℕ → List ℕ → List ℕ → List ℕ → Display
+displayGiven bytes list words buffer =
+    let c = compiling memorySize bytes list words (length buffer) in
+    record { depth = c .depth; rotation = c .rotation; flag = c .flag; width = fieldsOf bytes .width; height = fieldsOf bytes .height }
+
+-- what demand 3 claims of a screen record, a list, host words, a stream buffer and a memory: playing the stream is not refused;
+-- the memory is then the sheet's; and at every panel point the reader, given playing's six values and the memory it left,
+-- gives the colour that the sheet shows
+pub record DrawnTruly (bytes list words buffer memory : List ℕ) : Type 0 where
+  pub not-refused : playing memorySize (streamGiven bytes list words buffer) memory .number ≡ 0
+  pub same-bytes : played memorySize (streamGiven bytes list words buffer) memory ≡ sheetAfter memorySize bytes list words (length buffer) memory
+  pub same-colours : (p q : ℕ) → p < fieldsOf bytes .width → q < fieldsOf bytes .height
+      → reading memorySize (displayGiven bytes list words buffer) (playing memorySize (streamGiven bytes list words buffer) memory .values) p q
+      (played memorySize (streamGiven bytes list words buffer) memory)
+      ≡ record { number = 0; place = 0; colour = sheetShows (fieldsOf bytes) (sheetAfter memorySize bytes list words (length buffer) memory) p q }
+
+-- Demand 3: "For any screen, list of up to 64 commands and host words that compile, and any memory of 262,144 bytes"
+abbrev pub Demand3 : Type 0
+Demand3 =
+    (bytes list words buffer memory : List ℕ) → AllBelow 256 bytes → AllBelow 256 list → AllBelow 65536 words → AllBelow 256 memory
+    → length memory ≡ memorySize → compiling memorySize bytes list words (length buffer) .number ≡ 0
+    → DrawnTruly bytes list words buffer memory

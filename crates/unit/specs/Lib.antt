@@ -1,0 +1,5 @@
+pub mod Sheet
+pub mod Cases
+pub mod Tables
+pub mod Draw
+pub mod Demands

@@ -1,0 +1,99 @@
+-- The plain sheet (01, "The plain sheet"). It is fed the screen, the list and the host words, and knows no register or direction.
+use Prim.Native.Nat.{ℕ, _+_, _-_, _*_, _/_, _%_, _^_}
+use mathlib.Core.List.{List, [], _∷_}
+use mathlib.Core.Bool.{Bool, _&&_, cond}
+use lib.ListN.{length, getD, take, drop}
+use lib.Dec.{leb, eqb}
+use Rattle.record.specs.Bytes.{byteAt}
+use Rattle.pixel.specs.Pixel.{byteOf}
+use Rattle.pixel.specs.Raster.{raster}
+use Rattle.screen.specs.Screen.{mainImage, windowImage, fieldsOf}
+use Rattle.screen.specs.declared.Image.{Image}
+use Rattle.screen.specs.declared.Screen.{Screen}
+use Rattle.view.specs.View.{Pixel, pixelAt, viewPixel, among, inWindow, windowPixel}
+use Rattle.blit.specs.Rectangle.{tabulate}
+use Rattle.command.specs.Command.{commandOf, isFill, isMove, surfaceOf, lineWords, wordsTaken}
+use Rattle.command.specs.declared.Command.{Command}
+use Rattle.compiler.specs.Stream.{partsOf}
+use Rattle.compiler.specs.Compile.{compiling, commandSize}
+
+-- pixel n of a byte's 8 ÷ depth pixels, each a number of depth bits, left to right from its highest bits
+abbrev pub fromLeft : ℕ → ℕ → ℕ → ℕ
+fromLeft depth byte n = byte / 2 ^ (8 - (n + 1) * depth) % 2 ^ depth
+
+-- an image's pixel: at depth 8 the byte at its address; at 16 that plus 256 times the next; below 8 the address is cut off
+unfoldable pub sheetPixel : ℕ → Image → List ℕ → Pixel → ℕ
+sheetPixel depth i sheet x =
+    let a = i .base + x .v * i .line + x .u * depth / 8 in
+    cond (eqb depth 16) (byteAt sheet a + 256 * byteAt sheet (a + 1))
+    (cond (eqb depth 8) (byteAt sheet a)
+    (fromLeft depth (byteAt sheet a) (x .u % (8 / depth))))
+
+-- pixel i of line j of a write's host words: word i at depth 16; at 8 word i ÷ 2, low byte for even i, high for odd
+unfoldable pub hostPixel : ℕ → ℕ → List ℕ → ℕ → ℕ → ℕ
+hostPixel depth width words i j =
+    let line = j * lineWords depth width in
+    cond (eqb depth 16) (getD words (line + i) 0)
+    (cond (eqb (i % 2) 0) (getD words (line + i / 2) 0 % 256) (getD words (line + i / 2) 0 / 256))
+
+-- what pixel (i, j) of a command's rectangle becomes, from what the sheet held just before
+unfoldable pub newPixel : Screen → Command → List ℕ → List ℕ → ℕ → ℕ → ℕ
+newPixel s c words old i j =
+    let surface = surfaceOf s c in
+    let d = sheetPixel (s .depth) surface old (pixelAt (c .x + i) (c .y + j)) in
+    cond (isFill c) (c .colour)
+    (cond (isMove c)
+    (raster (s .depth) (c .raster) (sheetPixel (s .depth) surface old (pixelAt (c .sx + i) (c .sy + j))) d)
+    (raster (s .depth) (c .raster) (hostPixel (s .depth) (c .width) words i j) d))
+
+-- the byte at an address is byte `lane` of a surface's pixel
+abbrev pub sheetLine : Image → ℕ → ℕ
+sheetLine i a = (a - i .base) / i .line
+
+abbrev pub sheetColumn : ℕ → Image → ℕ → ℕ
+sheetColumn depth i a = (a - i .base) % i .line / (depth / 8)
+
+abbrev pub sheetLane : ℕ → Image → ℕ → ℕ
+sheetLane depth i a = (a - i .base) % i .line % (depth / 8)
+
+-- the command changes the byte at an address
+unfoldable pub drawn : Screen → Command → ℕ → Bool
+drawn s c a =
+    let surface = surfaceOf s c in
+    leb (surface .base) a
+    && (among (c .x) (c .width) (sheetColumn (s .depth) surface a) && among (c .y) (c .height) (sheetLine surface a))
+
+-- the byte at an address after a command; all other bytes stay
+unfoldable pub sheetByte : Screen → Command → List ℕ → List ℕ → ℕ → ℕ
+sheetByte s c words old a =
+    let surface = surfaceOf s c in
+    cond (drawn s c a)
+    (byteOf (sheetLane (s .depth) surface a)
+    (newPixel s c words old (sheetColumn (s .depth) surface a - c .x) (sheetLine surface a - c .y)))
+    (byteAt old a)
+
+-- a command changes all its pixels at once
+unfoldable pub sheetCommand : Screen → Command → List ℕ → List ℕ → List ℕ
+sheetCommand s c words old = tabulate (length old) (sheetByte s c words old)
+
+-- commands go in list order, and take the host words in order
+unfoldable pub sheetCommands : Screen → List (List ℕ) → List ℕ → List ℕ → List ℕ
+sheetCommands s [] words old = old
+sheetCommands s (b ∷ bs) words old =
+    let n = wordsTaken s (commandOf b) in
+    sheetCommands s bs (drop n words) (sheetCommand s (commandOf b) (take n words) old)
+
+-- the sheet after a whole list; a refused list changes nothing
+unfoldable pub sheetAfter : ℕ → List ℕ → List ℕ → List ℕ → ℕ → List ℕ → List ℕ
+sheetAfter m bytes list words room old =
+    cond (eqb (compiling m bytes list words room .number) 0)
+    (sheetCommands (fieldsOf bytes) (partsOf commandSize list) words old)
+    old
+
+-- what the sheet shows at panel point (p, q)
+unfoldable pub sheetShows : Screen → List ℕ → ℕ → ℕ → ℕ
+sheetShows s sheet p q =
+    let x = viewPixel (s .rotation) (s .width) (s .height) p q in
+    cond (inWindow s x)
+    (sheetPixel (s .depth) (windowImage s) sheet (windowPixel s x))
+    (sheetPixel (s .depth) (mainImage s) sheet x)

@@ -1,0 +1,3 @@
+pub mod Reaches
+pub mod Window
+pub mod Demand

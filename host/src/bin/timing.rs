@@ -1,0 +1,269 @@
+//! Times the reference and the library side by side, with memset or memmove of as many bytes beside
+//! them, and prints a Markdown table.
+//!
+//!     timing [ROUNDS]
+//!
+//! Inputs and buffers are made and warmed before; each round times one after the other, and the best
+//! round of each counts.
+
+use std::hint::black_box;
+use std::time::Instant;
+
+use host::answers::{Point, Settings};
+use host::inputs::Rng;
+use host::reference::MEMORY;
+use host::{reference, unit, LINKED};
+
+/// memset or memmove on a memory.
+type Plain<'a> = Option<&'a dyn Fn(&mut [u8])>;
+
+/// What a row counts.
+#[derive(Clone, Copy)]
+enum Of {
+    Bytes,
+    Points,
+    Commands,
+}
+
+/// Seconds of a call: the best of the rounds, for each function in turn.
+fn best<const N: usize>(rounds: u32, functions: &mut [&mut dyn FnMut(); N]) -> [f64; N] {
+    let time = |function: &mut dyn FnMut(), times: u32| {
+        let begun = Instant::now();
+        (0..times).for_each(|_| function());
+        begun.elapsed().as_secs_f64() / f64::from(times)
+    };
+    // Rounds are kept short, so that some are not disturbed; one call warms up.
+    let times = functions.each_mut().map(|function| {
+        function();
+        (4e-4 / time(function, 1)).clamp(1.0, 1e5) as u32
+    });
+    let mut least = [f64::INFINITY; N];
+    for _ in 0..rounds {
+        for (i, function) in functions.iter_mut().enumerate() {
+            least[i] = least[i].min(time(function, times[i]));
+        }
+    }
+    least
+}
+
+/// How many of something in a second.
+fn speed(of: Of, amount: usize, seconds: f64) -> String {
+    let per_second = amount as f64 / seconds;
+    match of {
+        Of::Bytes => format!("{:.2} GB/s", per_second / 1e9),
+        Of::Points => format!("{:.0} M points/s", per_second / 1e6),
+        Of::Commands => format!("{:.1} M commands/s", per_second / 1e6),
+    }
+}
+
+fn row(what: &str, of: Of, amount: usize, plain: Option<f64>, ours: f64, theirs: f64) {
+    let plain = plain.map_or("–".into(), |seconds| speed(of, amount, seconds));
+    let rust = speed(of, amount, ours);
+    let (library, ratio) = if LINKED {
+        (speed(of, amount, theirs), format!("{:.2}", ours / theirs))
+    } else {
+        ("–".into(), "–".into())
+    };
+    println!("| {what} | {plain} | {rust} | {library} | {ratio} |");
+}
+
+/// A screen of `width` by `height`, rotation 0, no window, base 0.
+fn screen(depth: u8, width: u16, height: u16) -> Vec<u8> {
+    let mut record = vec![0; 32];
+    record[0] = depth;
+    record[4..6].copy_from_slice(&width.to_le_bytes());
+    record[6..8].copy_from_slice(&height.to_le_bytes());
+    record
+}
+
+/// A command on main: operation, code, then x, y, width, height, source x, source y, colour.
+fn command(operation: u8, code: u8, numbers: [u16; 7]) -> Vec<u8> {
+    let mut part = vec![operation, 0, code, 0];
+    part.extend(numbers.iter().flat_map(|number| number.to_le_bytes()));
+    part.resize(32, 0);
+    part
+}
+
+fn compiled(screen: &[u8], list: &[u8], words: &[u16]) -> Vec<u8> {
+    let mut stream = vec![0; 48 + 72 * list.len() / 32 + 8 * words.len()];
+    let answer = reference::compile(screen, list, words, &mut stream);
+    assert_eq!((answer.number, answer.length), (0, stream.len() as u64));
+    stream
+}
+
+struct Timing {
+    rounds: u32,
+    rng: Rng,
+}
+
+impl Timing {
+    fn memory(&mut self) -> Vec<u8> {
+        (0..MEMORY).map(|_| self.rng.any() as u8).collect()
+    }
+
+    fn compile(&mut self, what: &str, of: Of, screen: &[u8], list: &[u8], words: &[u16]) {
+        let mut stream = compiled(screen, list, words);
+        let mut other = stream.clone();
+        let amount = match of {
+            Of::Commands => list.len() / 32,
+            _ => stream.len(),
+        };
+        let [ours, theirs] = best(
+            self.rounds,
+            &mut [
+                &mut || {
+                    black_box(reference::compile(black_box(screen), list, words, &mut stream));
+                },
+                &mut || {
+                    black_box(unit::compile(black_box(screen), list, words, &mut other));
+                },
+            ],
+        );
+        assert_eq!(stream, other);
+        row(what, of, amount, None, ours, theirs);
+    }
+
+    /// Plays one command that covers `bytes` bytes, with the plain form of the same beside it.
+    fn play(&mut self, what: &str, stream: &[u8], bytes: usize, plain: Plain) {
+        let mut memory = self.memory();
+        let (mut other, mut third) = (memory.clone(), memory.clone());
+        assert_eq!(reference::play(stream, &mut memory), unit::play(stream, &mut other));
+        assert_eq!(memory, other);
+        let [least, ours, theirs] = best(
+            self.rounds,
+            &mut [
+                &mut || {
+                    if let Some(plain) = plain {
+                        plain(black_box(&mut third));
+                    }
+                },
+                &mut || {
+                    black_box(reference::play(black_box(stream), &mut memory));
+                },
+                &mut || {
+                    black_box(unit::play(black_box(stream), &mut other));
+                },
+            ],
+        );
+        row(what, Of::Bytes, bytes, plain.map(|_| least), ours, theirs);
+    }
+
+    /// Reads each point of a panel by a call, 16 lines at a time.
+    fn panel(&mut self, what: &str, settings: &Settings) {
+        type Read = fn(&Settings, u32, u32, &[u8]) -> Point;
+        let memory = self.memory();
+        let (width, height) = (settings.width, settings.height);
+        let band = |read: Read, first: u32| {
+            let mut sum = 0u64;
+            for q in first..first + 16 {
+                for p in 0..width {
+                    let point = read(settings, p, q, &memory);
+                    sum += u64::from(point.colour) + (u64::from(point.number) << 32);
+                }
+            }
+            sum
+        };
+        let (mut ours, mut theirs) = (0.0, 0.0);
+        for first in (0..height).step_by(16) {
+            let sum = band(reference::read_point, first);
+            assert!(sum < 1 << 32 && sum == band(unit::read_point, first));
+            let times = best(
+                self.rounds / 4 + 1,
+                &mut [
+                    &mut || {
+                        black_box(band(reference::read_point, first));
+                    },
+                    &mut || {
+                        black_box(band(unit::read_point, first));
+                    },
+                ],
+            );
+            ours += times[0];
+            theirs += times[1];
+        }
+        row(what, Of::Points, (width * height) as usize, None, ours, theirs);
+    }
+}
+
+fn main() {
+    let rounds = std::env::args().nth(1).map_or(Ok(60), |text| text.parse());
+    let Ok(rounds @ 1..) = rounds else {
+        eprintln!("timing [ROUNDS]");
+        std::process::exit(1);
+    };
+    let mut timing = Timing { rounds, rng: Rng::new(1, 0) };
+    if !LINKED {
+        eprintln!("timing: built without libs1d.a (build.rs): Rust alone");
+    }
+    println!("| What | memset, memmove | Rust | library | library ÷ Rust |");
+    println!("|---|---|---|---|---|");
+
+    let (bytes, words) = (screen(8, 512, 512), screen(16, 256, 512));
+    let mixed: Vec<u8> = (0..64)
+        .flat_map(|i| match i % 2 {
+            0 => command(0, 0, [4 * i, 3 * i, 40, 30, 0, 0, i]),
+            _ => command(1, 0xC, [4 * i, 3 * i, 40, 30, 3 * i, 4 * i, 0]),
+        })
+        .collect();
+    timing.compile("compile 64 fills and moves", Of::Commands, &bytes, &mixed, &[]);
+    let pixels = timing.rng.words(248 * 496);
+    let write = command(2, 0xC, [8, 8, 496, 496, 0, 0, 0]);
+    timing.compile(
+        "compile a write of 123,008 words (stream bytes)",
+        Of::Bytes,
+        &bytes,
+        &write,
+        &pixels,
+    );
+
+    const RECTANGLE: usize = 496 * 496;
+    const HALF: usize = 496 * 248;
+    let fill = |memory: &mut [u8]| memory[..RECTANGLE].fill(0x5A);
+    for (depth, screen, numbers) in
+        [(8, &bytes, [8, 8, 496, 496, 0, 0, 0x5A]), (16, &words, [4, 8, 248, 496, 0, 0, 0x1234])]
+    {
+        let stream = compiled(screen, &command(0, 0, numbers), &[]);
+        timing.play(&format!("fill, depth {depth}"), &stream, RECTANGLE, Some(&fill));
+    }
+
+    // Half the screen by 257 lines and a pixel; or all but a frame by a line and a pixel.
+    const FAR: usize = 257 * 512 + 1;
+    let far_up = |memory: &mut [u8]| memory.copy_within(FAR..FAR + HALF, 0);
+    let far_down = |memory: &mut [u8]| memory.copy_within(..HALF, FAR);
+    let near_up = |memory: &mut [u8]| memory.copy_within(513..513 + RECTANGLE, 0);
+    let near_down = |memory: &mut [u8]| memory.copy_within(..RECTANGLE, 513);
+    let moves: [(&str, [u16; 6], usize, Plain); 4] = [
+        ("up, no overlap", [8, 4, 496, 248, 9, 261], HALF, Some(&far_up)),
+        ("down, no overlap", [9, 261, 496, 248, 8, 4], HALF, Some(&far_down)),
+        ("up and left by one, overlap", [8, 8, 496, 496, 9, 9], RECTANGLE, Some(&near_up)),
+        ("down and right by one, overlap", [9, 9, 496, 496, 8, 8], RECTANGLE, Some(&near_down)),
+    ];
+    for (code, name) in [(0xC, "move"), (6, "exclusive or")] {
+        for (way, [x, y, w, h, sx, sy], size, plain) in moves {
+            let stream = compiled(&bytes, &command(1, code, [x, y, w, h, sx, sy, 0]), &[]);
+            let plain = if code == 0xC { plain } else { None };
+            timing.play(&format!("{name} {way}"), &stream, size, plain);
+        }
+    }
+
+    timing.play("write, depth 8", &compiled(&bytes, &write, &pixels), RECTANGLE, None);
+    let write = command(2, 0xC, [4, 8, 248, 496, 0, 0, 0]);
+    timing.play("write, depth 16", &compiled(&words, &write, &pixels), RECTANGLE, None);
+
+    let settings = Settings {
+        depth: 2,
+        rotation: 0,
+        flag: 0,
+        width: 1024,
+        height: 1024,
+        values: [0, 64, 0, 0, 0, 0],
+    };
+    timing.panel("read 1,024 × 1,024 points", &settings);
+    let turned = Settings {
+        rotation: 1,
+        flag: 1,
+        values: [63, 64, 31, 32, 256 | 767 << 16, 16 | 47 << 16],
+        ..settings
+    };
+    timing.panel("read 1,024 × 1,024 points, 90 degrees, window", &turned);
+}

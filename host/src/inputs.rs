@@ -1,0 +1,473 @@
+//! Random inputs, from a seed: records, lists, words, streams and points, whole and damaged.
+
+use crate::answers::Settings;
+
+const MEMORY: u64 = 262_144;
+
+/// Most host words of a list that is made here.
+const MOST_WORDS: u64 = 200_000;
+
+/// Longest stream buffer of a list that is made here.
+pub const MOST_ROOM: usize = 48 + 72 * 64 + 8 * MOST_WORDS as usize + 100;
+
+/// xorshift64*, begun by splitmix64.
+pub struct Rng(u64);
+
+impl Rng {
+    /// The generator of input number `index`: each input is made from itself alone.
+    pub fn new(seed: u64, index: u64) -> Rng {
+        let mut z = seed.wrapping_mul(0xD134_2543_DE82_EF95) ^ index;
+        z = z.wrapping_add(0x9E37_79B9_7F4A_7C15);
+        z = (z ^ z >> 30).wrapping_mul(0xBF58_476D_1CE4_E5B9);
+        z = (z ^ z >> 27).wrapping_mul(0x94D0_49BB_1331_11EB);
+        Rng((z ^ z >> 31).max(1))
+    }
+
+    pub fn any(&mut self) -> u64 {
+        self.0 ^= self.0 >> 12;
+        self.0 ^= self.0 << 25;
+        self.0 ^= self.0 >> 27;
+        self.0.wrapping_mul(0x2545_F491_4F6C_DD1D)
+    }
+
+    /// 0 to n - 1.
+    pub fn below(&mut self, n: u64) -> u64 {
+        ((u128::from(self.any()) * u128::from(n)) >> 64) as u64
+    }
+
+    pub fn between(&mut self, low: u64, high: u64) -> u64 {
+        low + self.below(high - low + 1)
+    }
+
+    pub fn one_in(&mut self, n: u64) -> bool {
+        self.below(n) == 0
+    }
+
+    pub fn pick<T: Copy>(&mut self, from: &[T]) -> T {
+        from[self.below(from.len() as u64) as usize]
+    }
+
+    /// 1 to `most`, often small or `most` itself.
+    fn size(&mut self, most: u64) -> u64 {
+        match self.below(8) {
+            0 => 1,
+            1 => most,
+            2 | 3 => self.between(1, most),
+            _ => self.between(1, most.min(12)),
+        }
+    }
+
+    /// 0 to `most`, often either end.
+    fn offset(&mut self, most: u64) -> u64 {
+        match self.below(4) {
+            0 => 0,
+            1 => most,
+            _ => self.between(0, most),
+        }
+    }
+
+    pub fn words(&mut self, count: u64) -> Vec<u16> {
+        (0..count).map(|_| self.any() as u16).collect()
+    }
+
+    /// A number near another one, or at a limit.
+    fn near(&mut self, old: u64) -> u64 {
+        let step = self.pick(&[1, 1, 1, 2, 4, 8, 16, 32]);
+        match self.below(9) {
+            0 => 0,
+            1 => 1,
+            2 | 3 => old.wrapping_sub(step),
+            4 | 5 => old.wrapping_add(step),
+            6 => self.pick(&[1024, 1025, 1032, MEMORY, 0xFFFF, 0x8000, 0xFFFF_FFFC, 0xFFFF_FFFF]),
+            7 => old ^ 1 << self.below(32),
+            _ => self.any(),
+        }
+    }
+}
+
+fn field(bytes: &[u8], at: usize, size: usize) -> u64 {
+    (0..size).map(|i| u64::from(bytes[at + i]) << (8 * i)).sum()
+}
+
+fn set(bytes: &mut [u8], at: usize, size: usize, value: u64) {
+    bytes[at..at + size].copy_from_slice(&value.to_le_bytes()[..size]);
+}
+
+/// Places a number near its old value into one of the fields (place, size).
+fn nudge(rng: &mut Rng, bytes: &mut [u8], fields: &[(usize, usize)]) {
+    let (at, size) = rng.pick(fields);
+    let value = rng.near(field(bytes, at, size));
+    set(bytes, at, size, value);
+}
+
+const SCREEN_FIELDS: [(usize, usize); 11] =
+    [(0, 1), (1, 1), (2, 1), (4, 2), (6, 2), (8, 4), (12, 4), (16, 2), (18, 2), (20, 2), (22, 2)];
+const COMMAND_FIELDS: [(usize, usize); 10] =
+    [(0, 1), (1, 1), (2, 1), (4, 2), (6, 2), (8, 2), (10, 2), (12, 2), (14, 2), (16, 2)];
+
+/// What compiling is given; `room` is the stream buffer's length.
+pub struct Drawing {
+    pub screen: Vec<u8>,
+    pub list: Vec<u8>,
+    pub words: Vec<u16>,
+    pub room: usize,
+}
+
+/// A base for an image of so many bytes.
+fn base(rng: &mut Rng, bytes: u64) -> u64 {
+    4 * rng.offset((MEMORY - bytes) / 4)
+}
+
+/// A screen record that is accepted.
+pub fn screen(rng: &mut Rng) -> Vec<u8> {
+    let depth = rng.pick(&[1, 2, 4, 8, 8, 8, 16, 16, 16]);
+    let rotation = rng.below(4);
+    let k = 32 / depth;
+    let (mut width, mut height) = if rotation % 2 == 0 {
+        let step = k.max(8);
+        (step * rng.size(1024 / step), rng.size(1024))
+    } else {
+        (k * rng.size(1024 / k), 8 * rng.size(128))
+    };
+    let most = MEMORY * 8 / (width * depth);
+    height = height.min(if rotation % 2 == 0 { most } else { most / 8 * 8 });
+    let view = (width, height);
+    let mut record = vec![0; 32];
+    set(&mut record, 0, 1, depth);
+    set(&mut record, 1, 1, rotation);
+    set(&mut record, 8, 4, base(rng, width * height * depth / 8));
+    if rotation % 2 == 1 {
+        (width, height) = (height, width);
+    }
+    set(&mut record, 4, 2, width);
+    set(&mut record, 6, 2, height);
+    if rng.one_in(2) {
+        let (width, height) = (k * rng.size(view.0 / k), rng.size(view.1));
+        record[2] = 1;
+        set(&mut record, 12, 4, base(rng, width * height * depth / 8));
+        set(&mut record, 16, 2, k * rng.offset((view.0 - width) / k));
+        set(&mut record, 18, 2, rng.offset(view.1 - height));
+        set(&mut record, 20, 2, width);
+        set(&mut record, 22, 2, height);
+    }
+    record
+}
+
+/// A command that is accepted on a screen of depth 8 or 16, and the host words that it takes, at
+/// most `words`.
+fn command(rng: &mut Rng, screen: &[u8], words: u64) -> (Vec<u8>, u64) {
+    let depth = u64::from(screen[0]);
+    let on_window = screen[2] == 1 && rng.one_in(2);
+    let (mut across, mut down) = if on_window {
+        (field(screen, 20, 2), field(screen, 22, 2))
+    } else {
+        (field(screen, 4, 2), field(screen, 6, 2))
+    };
+    if !on_window && screen[1] % 2 == 1 {
+        (across, down) = (down, across);
+    }
+    let (width, height) = (rng.size(across), rng.size(down));
+    let (x, y) = (rng.offset(across - width), rng.offset(down - height));
+    let taken = (width * depth / 8).div_ceil(2) * height;
+    let operation = match rng.below(4) {
+        0 => 0,
+        3 if taken <= words => 2,
+        _ => 1,
+    };
+    let mut part = vec![0; 32];
+    part[0] = operation;
+    part[1] = on_window.into();
+    for (at, value) in [(4, x), (6, y), (8, width), (10, height)] {
+        set(&mut part, at, 2, value);
+    }
+    if operation != 0 {
+        part[2] = if rng.one_in(2) { 12 } else { rng.below(16) as u8 };
+    }
+    match operation {
+        0 => set(&mut part, 16, 2, rng.any() >> if depth == 8 { 56 } else { 48 }),
+        1 => {
+            // Near the destination, or anywhere.
+            let mut place = |at: u64, most: u64| match rng.below(3) {
+                0 => rng.offset(most),
+                _ => (at + rng.below(7)).saturating_sub(3).min(most),
+            };
+            let source = (place(x, across - width), place(y, down - height));
+            set(&mut part, 12, 2, source.0);
+            set(&mut part, 14, 2, source.1);
+        }
+        _ => return (part, taken),
+    }
+    (part, 0)
+}
+
+/// A screen, a list that is accepted on it, its words, and a buffer that holds the stream.
+pub fn accepted(rng: &mut Rng) -> Drawing {
+    let screen = screen(rng);
+    let count = match rng.below(16) {
+        _ if screen[0] < 8 => 0,
+        0 => 0,
+        1 if field(&screen, 4, 2) * field(&screen, 6, 2) < 40_000 => rng.between(50, 64),
+        _ => rng.between(1, 4),
+    };
+    let most = if rng.one_in(50) { MOST_WORDS } else { 20_000 };
+    let (mut list, mut taken) = (Vec::new(), 0);
+    for _ in 0..count {
+        let (part, words) = command(rng, &screen, most - taken);
+        list.extend(part);
+        taken += words;
+    }
+    let mut room = (8 * (6 + 9 * count + taken)) as usize;
+    if rng.one_in(2) {
+        room += rng.below(100) as usize;
+    }
+    Drawing { screen, list, words: rng.words(taken), room }
+}
+
+/// Damages a drawing in one place.
+pub fn damage(rng: &mut Rng, drawing: &mut Drawing) {
+    let Drawing { screen, list, words, room } = drawing;
+    let commands = list.len() / 32;
+    match rng.below(20) {
+        0..=4 if screen.len() >= 32 => nudge(rng, screen, &SCREEN_FIELDS),
+        5 if screen.len() >= 32 => screen[rng.below(32) as usize] = rng.any() as u8,
+        6 => {
+            let length = rng.pick(&[0, 1, 16, 31, 33, 64]);
+            screen.resize(length, 0);
+        }
+        7..=12 if commands > 0 => {
+            let at = 32 * rng.below(commands as u64) as usize;
+            let part = &mut list[at..at + 32];
+            if rng.one_in(6) {
+                part[rng.below(32) as usize] = rng.any() as u8;
+            } else {
+                nudge(rng, part, &COMMAND_FIELDS);
+            }
+        }
+        13 => {
+            let length = list.len() as u64 + rng.between(1, 31);
+            list.resize(length as usize, 0);
+        }
+        14 => {
+            // A command more than a list may have, or one more that is all zero.
+            let length = if rng.one_in(2) { 65 * 32 } else { list.len() + 32 };
+            list.resize(length, 0);
+        }
+        15 | 16 => {
+            let left = rng.below(words.len() as u64 + 1);
+            let left = if rng.one_in(2) { words.len().saturating_sub(1) } else { left as usize };
+            words.truncate(left);
+        }
+        17 => {
+            let more = rng.size(40);
+            words.extend(rng.words(more));
+        }
+        _ => {
+            let less =
+                if rng.one_in(4) { rng.below(*room as u64 + 1) } else { rng.between(1, 108) };
+            *room = room.saturating_sub(less as usize);
+        }
+    }
+}
+
+const SCREEN_REGISTERS: [(u32, u32); 6] = [
+    (0x40, 0xFFFF),
+    (0x44, 0x3FF),
+    (0x50, 0xFFFF),
+    (0x54, 0x3FF),
+    (0x58, 0x3FF_03FF),
+    (0x5C, 0x3FF_03FF),
+];
+const NUMBERS: [u32; 22] = [
+    0x40, 0x44, 0x50, 0x54, 0x58, 0x5C, 0x8000, 0x8008, 0x800C, 0x8010, 0x8014, 0x8018, 0x801C,
+    0x8020, 0x8024, 0x10000, 0x10000, 0, 0x10, 0x8004, 0x8028, 0x10001,
+];
+
+/// The start address of a rectangle of `reach` bytes: mostly inside the memory, often just so, now
+/// and then just not.
+fn address(rng: &mut Rng, reach: u64, pixel: u64, backward: bool) -> u64 {
+    let (low, high) = if backward {
+        (reach.saturating_sub(pixel), MEMORY - pixel)
+    } else {
+        (0, MEMORY.saturating_sub(reach))
+    };
+    let at = match rng.below(12) {
+        0 => low.wrapping_sub(pixel),
+        1 => high + pixel,
+        2 | 3 => low,
+        4 | 5 => high,
+        _ if low <= high => rng.between(low, high) / pixel * pixel,
+        _ => low,
+    };
+    if at < MEMORY {
+        at
+    } else {
+        high.min(MEMORY - 1)
+    }
+}
+
+/// A stream that no compiling made: blits of any offset and direction, mostly accepted.
+pub fn foreign(rng: &mut Rng) -> Vec<u8> {
+    let mut records: Vec<(u32, u32)> = Vec::new();
+    for _ in 0..rng.below(5) {
+        let operation = match rng.below(48) {
+            0 => rng.below(16),
+            _ => rng.pick(&[0, 2, 2, 3, 3, 12]),
+        };
+        let pixel = rng.between(1, 2);
+        let most = if rng.one_in(16) { 1024 } else { 48 };
+        let (width, height) = (rng.size(most), rng.size(if operation == 0 { 48 } else { most }));
+        let offset = match rng.below(4) {
+            0 => rng.below(4),
+            1 => rng.below(0x800),
+            2 => (width * pixel).div_ceil(2),
+            _ => rng.below(64),
+        };
+        let reach = (height - 1) * 2 * offset + width * pixel;
+        let backward = operation == 3;
+        let destination = address(rng, reach, pixel, backward);
+        let source = match rng.below(4) {
+            _ if operation == 0 => u64::from(rng.one_in(64)),
+            0 => address(rng, reach, pixel, backward),
+            1 => (destination + rng.below(9) * 2 * offset).saturating_sub(8 * offset),
+            _ => (destination + rng.below(17) * pixel).saturating_sub(8 * pixel),
+        };
+        let source = source.min(MEMORY - pixel);
+        let code = if rng.one_in(3) { 12 } else { rng.below(16) };
+        let odd = |rng: &mut Rng, at: u64| if rng.one_in(48) { at ^ 1 } else { at };
+        let mut setup = vec![
+            (0x8008, operation | code << 16),
+            (0x800C, odd(rng, source)),
+            (0x8010, odd(rng, destination)),
+            (0x8014, offset),
+            (0x8018, width - 1),
+            (0x801C, height - 1),
+            (0x8024, rng.below(0x1_0000)),
+        ];
+        if rng.one_in(4) {
+            setup.push((0x8020, rng.below(0x1_0000)));
+        }
+        if rng.one_in(4) {
+            setup.push((0x8000, rng.pick(&[0, 0x4_0000])));
+        }
+        for _ in 0..rng.below(3) {
+            let (number, mask) = rng.pick(&SCREEN_REGISTERS);
+            setup.push((number, rng.any() & u64::from(mask)));
+        }
+        // Now and then a register keeps the value that it had.
+        if rng.one_in(8) {
+            setup.swap_remove(rng.below(setup.len() as u64) as usize);
+        }
+        for i in (1..setup.len()).rev() {
+            setup.swap(i, rng.below(i as u64 + 1) as usize);
+        }
+        setup.push((0x8000, 1 | (pixel - 1) << 18));
+        records.extend(setup.iter().map(|&(number, value)| (number, value as u32)));
+        if operation == 0 {
+            let mut words = (width * pixel).div_ceil(2) * height;
+            if rng.one_in(16) {
+                words = words + 1 - 2 * rng.below(2);
+            }
+            // Now and then another record stands where a word is due.
+            let cut = rng.one_in(8).then(|| rng.below(words.clamp(1, 3)));
+            let words = cut.unwrap_or(words);
+            records.extend((0..words).map(|_| (0x10000, u32::from(rng.any() as u16))));
+            if cut.is_some() {
+                let control = (0x8000, rng.pick(&[0, 1, 0x4_0000, 0x4_0001, 0x1_0001]));
+                let other = (rng.pick(&NUMBERS), rng.near(0) as u32);
+                records.push(if rng.one_in(3) { other } else { control });
+            }
+        }
+    }
+    let bytes = |(number, value): (u32, u32)| u64::from(number) | u64::from(value) << 32;
+    records.into_iter().flat_map(|record| bytes(record).to_le_bytes()).collect()
+}
+
+/// Changes a stream in one place.
+pub fn mutate(rng: &mut Rng, stream: &mut Vec<u8>) {
+    let count = (stream.len() / 8) as u64;
+    if count == 0 || rng.one_in(12) {
+        let length = stream.len() as u64 + rng.below(16);
+        stream.resize(length as usize, 0);
+        return;
+    }
+    // Among the first records, the last ones, or anywhere: data words are most of a long stream.
+    let i = match rng.below(4) {
+        0 => rng.below(count),
+        1 => count - 1 - rng.below(count.min(4)),
+        _ => rng.below(count.min(40)),
+    };
+    let at = 8 * i as usize;
+    match rng.below(8) {
+        0 => {
+            let number = if rng.one_in(4) { rng.any() } else { rng.pick(&NUMBERS).into() };
+            set(stream, at, 4, number);
+        }
+        1..=3 => {
+            let value = rng.near(field(stream, at + 4, 4));
+            set(stream, at + 4, 4, value);
+        }
+        4 => {
+            stream.drain(at..at + 8);
+        }
+        5 => {
+            let (number, value) = (rng.pick(&NUMBERS), rng.near(0));
+            let record = u64::from(number) | value << 32;
+            stream.splice(at..at, record.to_le_bytes());
+        }
+        6 => stream.truncate(at + 8 * rng.below(2) as usize),
+        _ => {
+            let record: Vec<u8> = stream[at..at + 8].to_vec();
+            stream.splice(at..at, record);
+        }
+    }
+}
+
+/// Settings, values and a point, mostly accepted.
+pub fn point(rng: &mut Rng) -> (Settings, u32, u32) {
+    let record = screen(rng);
+    let (depth, rotation) = (u32::from(record[0]), u32::from(record[1]));
+    let (width, height) = (field(&record, 4, 2), field(&record, 6, 2));
+    let (mut across, mut down) = (width, height);
+    // The window's edges are counted in dwords along the view's lines.
+    *(if rotation % 2 == 0 { &mut across } else { &mut down }) /= u64::from(32 / depth);
+    let edges = |rng: &mut Rng, most: u64| {
+        let (a, b) = (rng.offset(most - 1), rng.offset(most - 1));
+        let (start, end) = if rng.one_in(16) { (a, b) } else { (a.min(b), a.max(b)) };
+        (start | end << 16) as u32
+    };
+    let start = |rng: &mut Rng| rng.offset(0xFFFF) as u32;
+    let offset = |rng: &mut Rng| {
+        let most = rng.pick(&[0x3FF, 64, 64]);
+        rng.offset(most) as u32
+    };
+    let mut settings = Settings {
+        depth,
+        rotation,
+        flag: rng.below(2) as u32,
+        width: width as u32,
+        height: height as u32,
+        values: [
+            start(rng),
+            offset(rng),
+            start(rng),
+            offset(rng),
+            edges(rng, across),
+            edges(rng, down),
+        ],
+    };
+    let (mut p, mut q) = (rng.offset(width - 1) as u32, rng.offset(height - 1) as u32);
+    for _ in 0..rng.pick(&[0, 0, 0, 0, 1, 1, 2, 3]) {
+        let number = match rng.below(8) {
+            0 => &mut settings.depth,
+            1 => &mut settings.rotation,
+            2 => &mut settings.flag,
+            3 => &mut settings.width,
+            4 => &mut settings.height,
+            5 => &mut settings.values[rng.below(6) as usize],
+            6 => &mut p,
+            _ => &mut q,
+        };
+        *number = rng.near((*number).into()) as u32;
+    }
+    (settings, p, q)
+}

@@ -1,0 +1,24 @@
+//! Paper 01 three times over, and the proved library beside it.
+//!
+//! - `reference`: compiling, playing and the point reader, written for speed; what the library is
+//!   compared with and timed against.
+//! - `sheet`: the plain sheet, pixel by pixel from the commands, with no register or direction.
+//! - `literal`: an accepted stream played one pixel at a time, in the direction named.
+//! - `unit`: the library, where build.rs found it.
+
+// Divisions and remainders stand as the paper has them.
+#![allow(clippy::manual_is_multiple_of, clippy::manual_div_ceil)]
+
+pub mod answers;
+pub mod inputs;
+pub mod literal;
+pub mod reference;
+pub mod sheet;
+#[cfg(unit)]
+pub mod unit;
+/// Stands in where the library is not there: the reference against itself.
+#[cfg(not(unit))]
+pub use reference as unit;
+
+/// Whether the library is linked.
+pub const LINKED: bool = cfg!(unit);

@@ -1,0 +1,724 @@
+//! Paper 01 in plain Rust: compiling, playing, the point reader.
+//!
+//! The four public functions are not inlined, so that timing them beside the library is fair.
+
+use crate::answers::{Compiled, Drawn, Played, Point, Settings};
+
+/// Bytes of the display memory.
+pub const MEMORY: usize = 262_144;
+
+/// Most commands of a list.
+const COMMANDS: usize = 64;
+
+/// The number of a stream record that holds a host data word.
+const DATA: u32 = 0x1_0000;
+
+/// A refusal: number and place.
+type Refusal = (u32, u64);
+
+fn u16_at(bytes: &[u8], at: usize) -> u32 {
+    u16::from_le_bytes([bytes[at], bytes[at + 1]]).into()
+}
+
+fn u32_at(bytes: &[u8], at: usize) -> u32 {
+    u32::from_le_bytes([bytes[at], bytes[at + 1], bytes[at + 2], bytes[at + 3]])
+}
+
+fn all_zero(bytes: &[u8]) -> bool {
+    bytes.iter().all(|&byte| byte == 0)
+}
+
+// ---- The screen ----
+
+/// A surface's image in memory: base in bytes, size in pixels.
+#[derive(Clone, Copy, Default)]
+struct Image {
+    base: u32,
+    width: u32,
+    height: u32,
+}
+
+impl Image {
+    /// Line length in bytes.
+    fn line(&self, depth: u32) -> u32 {
+        self.width * depth / 8
+    }
+
+    fn fits(&self, depth: u32) -> bool {
+        let size = self.line(depth) * self.height;
+        self.base % 4 == 0 && u64::from(self.base) + u64::from(size) <= MEMORY as u64
+    }
+
+    /// The start register, in dwords.
+    fn start(&self, depth: u32, rotation: u32) -> u32 {
+        let line = self.line(depth);
+        match rotation {
+            0 => self.base / 4,
+            1 => (self.base + line) / 4 - 1,
+            2 => (self.base + line * self.height) / 4 - 1,
+            _ => (self.base + (self.height - 1) * line) / 4,
+        }
+    }
+
+    /// Byte address of pixel (x, y), at depth 8 or 16.
+    fn address(&self, depth: u32, x: u32, y: u32) -> u32 {
+        self.base + y * self.line(depth) + x * depth / 8
+    }
+
+    fn holds(&self, x: u32, y: u32, width: u32, height: u32) -> bool {
+        x + width <= self.width && y + height <= self.height
+    }
+}
+
+struct Screen {
+    depth: u32,
+    rotation: u32,
+    flag: u32,
+    /// The panel's size.
+    width: u32,
+    height: u32,
+    main: Image,
+    window: Image,
+    /// The window's place in the view.
+    x: u32,
+    y: u32,
+}
+
+/// The size of the view on a panel, or refusal 2 to 5.
+fn view(depth: u32, rotation: u32, width: u32, height: u32) -> Result<(u32, u32), u32> {
+    if !matches!(depth, 1 | 2 | 4 | 8 | 16) {
+        return Err(2);
+    }
+    if rotation > 3 {
+        return Err(3);
+    }
+    if width % 8 != 0 || !(8..=1024).contains(&width) || !(1..=1024).contains(&height) {
+        return Err(4);
+    }
+    let view = if rotation % 2 == 0 { (width, height) } else { (height, width) };
+    if view.0 % (32 / depth) != 0 {
+        return Err(5);
+    }
+    Ok(view)
+}
+
+impl Screen {
+    /// The screen of a record, or refusal 1 to 9.
+    fn read(record: &[u8]) -> Result<Screen, u32> {
+        if record.len() != 32 {
+            return Err(1);
+        }
+        let flag = u32::from(record[2]);
+        if flag > 1
+            || record[3] != 0
+            || !all_zero(&record[24..])
+            || flag == 0 && !all_zero(&record[12..24])
+        {
+            return Err(1);
+        }
+        let (depth, rotation) = (record[0].into(), record[1].into());
+        let (width, height) = (u16_at(record, 4), u16_at(record, 6));
+        let (view_width, view_height) = view(depth, rotation, width, height)?;
+        let main = Image { base: u32_at(record, 8), width: view_width, height: view_height };
+        if !main.fits(depth) {
+            return Err(6);
+        }
+        let window = Image {
+            base: u32_at(record, 12),
+            width: u16_at(record, 20),
+            height: u16_at(record, 22),
+        };
+        let (x, y) = (u16_at(record, 16), u16_at(record, 18));
+        if flag == 1 {
+            let (w, h) = (window.width, window.height);
+            if w == 0 || h == 0 || !main.holds(x, y, w, h) {
+                return Err(7);
+            }
+            if x % (32 / depth) != 0 || w % (32 / depth) != 0 {
+                return Err(8);
+            }
+            if !window.fits(depth) {
+                return Err(9);
+            }
+        }
+        Ok(Screen { depth, rotation, flag, width, height, main, window, x, y })
+    }
+
+    /// Main start and offset, window start and offset, X, Y.
+    fn values(&self) -> [u32; 6] {
+        let start = |image: &Image| image.start(self.depth, self.rotation);
+        let offset = |image: &Image| image.line(self.depth) / 4;
+        let main = [start(&self.main), offset(&self.main)];
+        if self.flag == 0 {
+            return [main[0], main[1], 0, 0, 0, 0];
+        }
+        let k = 32 / self.depth;
+        let (x, y, w, h) = (self.x, self.y, self.window.width, self.window.height);
+        let (across, down) = (self.width, self.height);
+        let (x_start, x_end, y_start, y_end) = match self.rotation {
+            0 => (x / k, (x + w - 1) / k, y, y + h - 1),
+            1 => (y, y + h - 1, (down - x - w) / k, (down - x) / k - 1),
+            2 => ((across - x - w) / k, (across - x - 1) / k, down - y - h, down - y - 1),
+            _ => (across - y - h, across - y - 1, x / k, (x + w - 1) / k),
+        };
+        let edges = |start: u32, end: u32| start | end << 16;
+        [
+            main[0],
+            main[1],
+            start(&self.window),
+            offset(&self.window),
+            edges(x_start, x_end),
+            edges(y_start, y_end),
+        ]
+    }
+}
+
+// ---- Compiling ----
+
+#[derive(Clone, Copy, Default)]
+struct Command {
+    operation: u8,
+    code: u32,
+    image: Image,
+    x: u32,
+    y: u32,
+    width: u32,
+    height: u32,
+    source_x: u32,
+    source_y: u32,
+    colour: u32,
+}
+
+const FILL: u8 = 0;
+const MOVE: u8 = 1;
+const WRITE: u8 = 2;
+
+impl Command {
+    /// A command of the list, or refusal 12 to 14.
+    fn read(part: &[u8], screen: &Screen) -> Result<Command, u32> {
+        let (operation, surface, code) = (part[0], part[1], part[2]);
+        let source_zero = all_zero(&part[12..16]);
+        let colour = u16_at(part, 16);
+        let unused_zero = match operation {
+            FILL => code == 0 && source_zero,
+            MOVE => colour == 0,
+            WRITE => source_zero && colour == 0,
+            _ => return Err(12),
+        };
+        if u32::from(surface) > screen.flag
+            || code > 15
+            || screen.depth == 8 && colour > 255
+            || !unused_zero
+            || part[3] != 0
+            || !all_zero(&part[18..])
+        {
+            return Err(12);
+        }
+        let command = Command {
+            operation,
+            code: code.into(),
+            image: if surface == 0 { screen.main } else { screen.window },
+            x: u16_at(part, 4),
+            y: u16_at(part, 6),
+            width: u16_at(part, 8),
+            height: u16_at(part, 10),
+            source_x: u16_at(part, 12),
+            source_y: u16_at(part, 14),
+            colour,
+        };
+        let Command { image, x, y, width, height, source_x, source_y, .. } = command;
+        if width == 0 || height == 0 {
+            return Err(13);
+        }
+        // Without a move the source is (0, 0), and fits wherever the destination does.
+        if !image.holds(x, y, width, height) || !image.holds(source_x, source_y, width, height) {
+            return Err(14);
+        }
+        Ok(command)
+    }
+
+    /// Host words that the command takes.
+    fn words(&self, depth: u32) -> usize {
+        match self.operation {
+            WRITE => ((self.width * depth / 8).div_ceil(2) * self.height) as usize,
+            _ => 0,
+        }
+    }
+}
+
+/// A list that is accepted, and the length of its stream.
+struct Plan {
+    screen: Screen,
+    commands: [Command; COMMANDS],
+    count: usize,
+    length: usize,
+}
+
+/// The plan of a list, or refusal 1 to 17.
+fn plan(screen: &[u8], list: &[u8], words: usize, room: usize) -> Result<Plan, Refusal> {
+    let whole = |number| (number, 0);
+    let screen = Screen::read(screen).map_err(whole)?;
+    let count = list.len() / 32;
+    if list.len() % 32 != 0 || count > COMMANDS {
+        return Err((10, 0));
+    }
+    if count > 0 && screen.depth < 8 {
+        return Err((11, 0));
+    }
+    let mut commands = [Command::default(); COMMANDS];
+    let mut used = 0;
+    for (i, (command, part)) in commands.iter_mut().zip(list.chunks_exact(32)).enumerate() {
+        *command = Command::read(part, &screen).map_err(|number| (number, i as u64))?;
+        used += command.words(screen.depth);
+        if used > words {
+            return Err((15, i as u64));
+        }
+    }
+    if used < words {
+        return Err((16, 0));
+    }
+    let length = 8 * (6 + 9 * count + used);
+    if length > room {
+        return Err((17, 0));
+    }
+    Ok(Plan { screen, commands, count, length })
+}
+
+impl Plan {
+    /// Writes the stream to the front of a buffer that holds it.
+    fn write(&self, mut words: &[u16], stream: &mut [u8]) {
+        let mut records = stream.chunks_exact_mut(8);
+        let mut put = |number: u32, value: u32| {
+            let record = u64::from(number) | u64::from(value) << 32;
+            records.next().unwrap().copy_from_slice(&record.to_le_bytes());
+        };
+        let depth = self.screen.depth;
+        for (number, value) in
+            [0x40, 0x44, 0x50, 0x54, 0x58, 0x5C].into_iter().zip(self.screen.values())
+        {
+            put(number, value);
+        }
+        for c in &self.commands[..self.count] {
+            let first = c.image.address(depth, c.x, c.y);
+            let first_source = c.image.address(depth, c.source_x, c.source_y);
+            // From the upper left pixel to the lower right one.
+            let span = c.image.address(depth, c.width - 1, c.height - 1) - c.image.base;
+            let (operation, source, destination) = match c.operation {
+                FILL => (0xC, 0, first),
+                WRITE => (0, 0, first),
+                _ if first > first_source => (3, first_source + span, first + span),
+                _ => (2, first_source, first),
+            };
+            put(0x8008, operation | c.code << 16);
+            put(0x800C, source);
+            put(0x8010, destination);
+            put(0x8014, c.image.line(depth) / 2);
+            put(0x8018, c.width - 1);
+            put(0x801C, c.height - 1);
+            put(0x8020, 0);
+            put(0x8024, c.colour);
+            put(0x8000, 1 | u32::from(depth == 16) << 18);
+            let (data, rest) = words.split_at(c.words(depth));
+            for &word in data {
+                put(DATA, word.into());
+            }
+            words = rest;
+        }
+    }
+}
+
+/// Compiles a list into the front of the stream buffer.
+#[inline(never)]
+pub fn compile(screen: &[u8], list: &[u8], words: &[u16], stream: &mut [u8]) -> Compiled {
+    match plan(screen, list, words.len(), stream.len()) {
+        Ok(plan) => {
+            plan.write(words, stream);
+            Compiled {
+                length: plan.length as u64,
+                depth: plan.screen.depth,
+                rotation: plan.screen.rotation,
+                flag: plan.screen.flag,
+                ..Compiled::default()
+            }
+        }
+        Err((number, place)) => {
+            let (part_at, part_length) =
+                if (12..=15).contains(&number) { (32 * place, 32) } else { (0, 0) };
+            Compiled { number, place, part_at, part_length, ..Compiled::default() }
+        }
+    }
+}
+
+// ---- Playing ----
+
+/// The registers in the order of `slot`, and the bits that each has.
+const FIELDS: [u32; 15] = [
+    0xFFFF,     // 40h main start
+    0x3FF,      // 44h main offset
+    0xFFFF,     // 50h window start
+    0x3FF,      // 54h window offset
+    0x3FF_03FF, // 58h X
+    0x3FF_03FF, // 5Ch Y
+    0x4_0001,   // 8000h colour format, start
+    0xF_000F,   // 8008h raster code, operation
+    0x3_FFFF,   // 800Ch source start
+    0x3_FFFF,   // 8010h destination start
+    0x7FF,      // 8014h memory offset
+    0x3FF,      // 8018h width
+    0x3FF,      // 801Ch height
+    0xFFFF,     // 8020h background
+    0xFFFF,     // 8024h foreground
+];
+
+const CONTROL: usize = 6;
+
+fn slot(number: u32) -> Option<usize> {
+    Some(match number {
+        0x40 => 0,
+        0x44 => 1,
+        0x50 => 2,
+        0x54 => 3,
+        0x58 => 4,
+        0x5C => 5,
+        0x8000 => CONTROL,
+        0x8008 => 7,
+        0x800C => 8,
+        0x8010 => 9,
+        0x8014 => 10,
+        0x8018 => 11,
+        0x801C => 12,
+        0x8020 => 13,
+        0x8024 => 14,
+        _ => return None,
+    })
+}
+
+#[derive(Clone, Copy, PartialEq, Eq)]
+enum Kind {
+    Fill,
+    Forward,
+    Backward,
+    Write,
+}
+
+/// A blit at its start.
+struct Blit {
+    kind: Kind,
+    code: u32,
+    source: usize,
+    destination: usize,
+    /// Bytes from line to line.
+    stride: usize,
+    /// Bytes of a pixel and of a line's pixels.
+    pixel: usize,
+    line: usize,
+    lines: usize,
+    colour: u16,
+    /// Where its data records begin in the stream.
+    data_at: usize,
+}
+
+impl Blit {
+    /// The blit that the registers start, or refusal 21 or 22.
+    fn start(registers: &[u32; 15], data_at: usize) -> Result<Blit, u32> {
+        let register = |i: usize| registers[i] as usize;
+        let kind = match registers[7] & 0xF {
+            0 => Kind::Write,
+            2 => Kind::Forward,
+            3 => Kind::Backward,
+            0xC => Kind::Fill,
+            _ => return Err(21),
+        };
+        let pixel = 1 + (register(CONTROL) >> 18);
+        let (source, destination) = (register(8), register(9));
+        let moves = matches!(kind, Kind::Forward | Kind::Backward);
+        if destination % pixel != 0
+            || moves && source % pixel != 0
+            || kind == Kind::Write && source != 0
+        {
+            return Err(21);
+        }
+        let blit = Blit {
+            kind,
+            code: registers[7] >> 16,
+            source,
+            destination,
+            stride: 2 * register(10),
+            pixel,
+            line: (register(11) + 1) * pixel,
+            lines: register(12) + 1,
+            colour: registers[14] as u16,
+            data_at,
+        };
+        if !blit.inside(destination) || moves && !blit.inside(source) {
+            return Err(22);
+        }
+        Ok(blit)
+    }
+
+    /// Whether the rectangle that starts at an address lies in the memory.
+    fn inside(&self, at: usize) -> bool {
+        let reach = (self.lines - 1) * self.stride + self.line;
+        match self.kind {
+            Kind::Backward => at + self.pixel <= MEMORY && reach <= at + self.pixel,
+            _ => at + reach <= MEMORY,
+        }
+    }
+
+    /// Data words of a line: at depth 8 two pixels each, at 16 one.
+    fn words(&self) -> usize {
+        self.line.div_ceil(2)
+    }
+
+    /// Lowest address of line j of the rectangle that starts at an address.
+    fn line_at(&self, at: usize, j: usize) -> usize {
+        match self.kind {
+            Kind::Backward => at + self.pixel - self.line - j * self.stride,
+            _ => at + j * self.stride,
+        }
+    }
+
+    fn run(&self, stream: &[u8], memory: &mut [u8]) {
+        // One line's source, where it must be held: 1,024 pixels of two bytes.
+        let mut held = [0; 2048];
+        let mut data = &stream[self.data_at..];
+        for j in 0..self.lines {
+            let to = self.line_at(self.destination, j);
+            match self.kind {
+                Kind::Fill => {
+                    let line = &mut memory[to..to + self.line];
+                    let colour = self.colour.to_le_bytes();
+                    if self.pixel == 1 {
+                        line.fill(colour[0]);
+                    } else {
+                        line.chunks_exact_mut(2).for_each(|pixel| pixel.copy_from_slice(&colour));
+                    }
+                }
+                Kind::Write => {
+                    let records;
+                    (records, data) = data.split_at(8 * self.words());
+                    for (pair, record) in held.chunks_exact_mut(2).zip(records.chunks_exact(8)) {
+                        pair.copy_from_slice(&record[4..6]);
+                    }
+                    combine(self.code, &mut memory[to..to + self.line], &held[..self.line]);
+                }
+                Kind::Forward | Kind::Backward => {
+                    let from = self.line_at(self.source, j);
+                    let smears = match self.kind {
+                        Kind::Forward => from < to && to < from + self.line,
+                        _ => to < from && from < to + self.line,
+                    };
+                    if smears {
+                        self.smear(memory, from, to);
+                    } else if self.code == 0xC {
+                        memory.copy_within(from..from + self.line, to);
+                    } else {
+                        held[..self.line].copy_from_slice(&memory[from..from + self.line]);
+                        combine(self.code, &mut memory[to..to + self.line], &held[..self.line]);
+                    }
+                }
+            }
+        }
+    }
+
+    /// A line whose later pixels read what the earlier ones wrote.
+    fn smear(&self, memory: &mut [u8], from: usize, to: usize) {
+        let mut pixel = |at: usize| {
+            for i in at..at + self.pixel {
+                let source = [memory[from + i]];
+                combine(self.code, &mut memory[to + i..to + i + 1], &source);
+            }
+        };
+        let offsets = (0..self.line).step_by(self.pixel);
+        match self.kind {
+            Kind::Backward => offsets.rev().for_each(&mut pixel),
+            _ => offsets.for_each(&mut pixel),
+        }
+    }
+}
+
+/// Combines a line with its source under a raster code (002, table 9-2). A code works bit by bit, so
+/// bytes do at both depths.
+#[inline]
+fn combine(code: u32, line: &mut [u8], source: &[u8]) {
+    #[inline(always)]
+    fn each(line: &mut [u8], source: &[u8], raster: impl Fn(u8, u8) -> u8) {
+        for (d, &s) in line.iter_mut().zip(source) {
+            *d = raster(s, *d);
+        }
+    }
+    match code {
+        0 => line.fill(0),
+        1 => each(line, source, |s, d| !(s | d)),
+        2 => each(line, source, |s, d| !s & d),
+        3 => each(line, source, |s, _| !s),
+        4 => each(line, source, |s, d| s & !d),
+        5 => each(line, source, |_, d| !d),
+        6 => each(line, source, |s, d| s ^ d),
+        7 => each(line, source, |s, d| !(s & d)),
+        8 => each(line, source, |s, d| s & d),
+        9 => each(line, source, |s, d| !(s ^ d)),
+        10 => {}
+        11 => each(line, source, |s, d| !s | d),
+        12 => line.copy_from_slice(source),
+        13 => each(line, source, |s, d| s | !d),
+        14 => each(line, source, |s, d| s | d),
+        _ => line.fill(0xFF),
+    }
+}
+
+/// The last six screen values and the blits of a stream, or refusal 19 to 23.
+fn check(stream: &[u8]) -> Result<([u32; 6], Vec<Blit>), Refusal> {
+    if stream.len() % 8 != 0 {
+        return Err((19, 0));
+    }
+    let mut registers = [0; 15];
+    let mut blits = Vec::new();
+    let mut due = 0;
+    let mut records = stream.chunks_exact(8);
+    let count = records.len();
+    loop {
+        // Due data words are taken as far as they go.
+        let good = |record: &&[u8]| u32_at(record, 0) == DATA && u32_at(record, 4) <= 0xFFFF;
+        let taken = records.clone().take(due).take_while(good).count();
+        due -= taken;
+        if taken > 0 {
+            records.nth(taken - 1);
+        }
+        let i = count - records.len();
+        let refuse = |number: u32| (number, i as u64);
+        let Some(record) = records.next() else { break };
+        let (number, value) = (u32_at(record, 0), u32_at(record, 4));
+        if number == DATA {
+            return Err(refuse(if value > 0xFFFF { 21 } else { 23 }));
+        }
+        let slot = slot(number).ok_or(refuse(20))?;
+        if value & !FIELDS[slot] != 0 {
+            return Err(refuse(21));
+        }
+        registers[slot] = value;
+        let started = if slot == CONTROL && value & 1 == 1 {
+            Some(Blit::start(&registers, 8 * (i + 1)).map_err(refuse)?)
+        } else {
+            None
+        };
+        if due > 0 {
+            return Err(refuse(23));
+        }
+        if let Some(blit) = started {
+            if blit.kind == Kind::Write {
+                due = blit.words() * blit.lines;
+            }
+            blits.push(blit);
+        }
+    }
+    if due > 0 {
+        return Err((23, count as u64));
+    }
+    let [a, b, c, d, e, f, ..] = registers;
+    Ok(([a, b, c, d, e, f], blits))
+}
+
+/// Plays a stream over the memory.
+#[inline(never)]
+pub fn play(stream: &[u8], memory: &mut [u8]) -> Played {
+    let checked = if memory.len() != MEMORY { Err((18, 0)) } else { check(stream) };
+    match checked {
+        Ok((values, blits)) => {
+            for blit in blits {
+                blit.run(stream, memory);
+            }
+            Played { values, ..Played::default() }
+        }
+        Err((number, place)) => Played { number, place, ..Played::default() },
+    }
+}
+
+/// Compiles and plays: 18, then 1 to 17, and only then changes a buffer.
+#[inline(never)]
+pub fn draw(
+    screen: &[u8],
+    list: &[u8],
+    words: &[u16],
+    stream: &mut [u8],
+    memory: &mut [u8],
+) -> Drawn {
+    let planned = if memory.len() != MEMORY {
+        Err((18, 0))
+    } else {
+        plan(screen, list, words.len(), stream.len())
+    };
+    match planned {
+        Ok(plan) => {
+            plan.write(words, stream);
+            let Played { number, place, values } = play(&stream[..plan.length], memory);
+            Drawn { number, place, length: plan.length as u64, values }
+        }
+        Err((number, place)) => Drawn { number, place, ..Drawn::default() },
+    }
+}
+
+// ---- The point reader ----
+
+/// The colour that a panel point shows.
+#[inline(never)]
+pub fn read_point(screen: &Settings, p: u32, q: u32, memory: &[u8]) -> Point {
+    match point(screen, p, q, memory) {
+        Ok(colour) => Point { number: 0, colour },
+        Err(number) => Point { number, colour: 0 },
+    }
+}
+
+fn point(screen: &Settings, p: u32, q: u32, memory: &[u8]) -> Result<u32, u32> {
+    let &Settings { depth, rotation, flag, width, height, values } = screen;
+    if memory.len() != MEMORY {
+        return Err(18);
+    }
+    if flag > 1 {
+        return Err(1);
+    }
+    view(depth, rotation, width, height)?;
+    if values.iter().zip(FIELDS).any(|(value, field)| value & !field != 0) {
+        return Err(21);
+    }
+    if p >= width || q >= height {
+        return Err(24);
+    }
+
+    let k = 32 / depth;
+    let edges = |value: u32| (value & 0x3FF, value >> 16);
+    let ((x_start, x_end), (y_start, y_end)) = (edges(values[4]), edges(values[5]));
+    // X is counted in dwords at 0 and 180 degrees, Y at 90 and 270.
+    let (x_step, y_step) = if rotation % 2 == 0 { (k, 1) } else { (1, k) };
+    let in_window = flag == 1
+        && (x_start..=x_end).contains(&(p / x_step))
+        && (y_start..=y_end).contains(&(q / y_step));
+    let (start, offset, p, q) = if in_window {
+        (values[2], values[3], p - x_start * x_step, q - y_start * y_step)
+    } else {
+        (values[0], values[1], p, q)
+    };
+
+    let (s, o) = (i64::from(start), i64::from(offset));
+    let (along, across) = (|n: u32| i64::from(n / k), |n: u32| i64::from(n) * o);
+    let (dword, pixel) = match rotation {
+        0 => (s + across(q) + along(p), p % k),
+        1 => (s + across(p) - along(q), k - 1 - q % k),
+        2 => (s - across(q) - along(p), k - 1 - p % k),
+        _ => (s - across(p) + along(q), q % k),
+    };
+    if !(0..=65_535).contains(&dword) {
+        return Err(25);
+    }
+    let dword = 4 * dword as usize;
+    let byte = |i: u32| u32::from(memory[dword + i as usize]);
+    Ok(match depth {
+        16 => byte(2 * pixel) | byte(2 * pixel + 1) << 8,
+        8 => byte(pixel),
+        _ => {
+            let per_byte = 8 / depth;
+            let shift = 8 - depth * (1 + pixel % per_byte);
+            byte(pixel / per_byte) >> shift & ((1 << depth) - 1)
+        }
+    })
+}

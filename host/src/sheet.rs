@@ -1,0 +1,119 @@
+//! The plain sheet of paper 01, from the records themselves. It is fed accepted input only.
+
+fn number(bytes: &[u8], at: usize) -> usize {
+    usize::from(bytes[at]) + 256 * usize::from(bytes[at + 1])
+}
+
+struct Surface {
+    base: usize,
+    width: usize,
+    height: usize,
+    depth: usize,
+}
+
+/// Main (0) or the window (1).
+fn surface(screen: &[u8], which: u8) -> Surface {
+    let depth = screen[0].into();
+    if which == 1 {
+        let base = number(screen, 12) + 65_536 * number(screen, 14);
+        return Surface { base, width: number(screen, 20), height: number(screen, 22), depth };
+    }
+    let base = number(screen, 8) + 65_536 * number(screen, 10);
+    let (panel_width, panel_height) = (number(screen, 4), number(screen, 6));
+    match screen[1] {
+        0 | 2 => Surface { base, width: panel_width, height: panel_height, depth },
+        _ => Surface { base, width: panel_height, height: panel_width, depth },
+    }
+}
+
+impl Surface {
+    fn address(&self, x: usize, y: usize) -> usize {
+        self.base + y * (self.width * self.depth / 8) + x * self.depth / 8
+    }
+
+    fn pixel(&self, bytes: &[u8], x: usize, y: usize) -> u32 {
+        let at = self.address(x, y);
+        match self.depth {
+            16 => u32::from(bytes[at]) + 256 * u32::from(bytes[at + 1]),
+            8 => bytes[at].into(),
+            depth => {
+                let right = 8 / depth - 1 - x % (8 / depth);
+                u32::from(bytes[at]) / 2u32.pow((right * depth) as u32) % 2u32.pow(depth as u32)
+            }
+        }
+    }
+
+    fn set(&self, bytes: &mut [u8], x: usize, y: usize, pixel: u32) {
+        let at = self.address(x, y);
+        bytes[at] = (pixel % 256) as u8;
+        if self.depth == 16 {
+            bytes[at + 1] = (pixel / 256) as u8;
+        }
+    }
+}
+
+/// s and d combined: each bit of the result is bit 2s + d of the code.
+fn combined(code: u8, s: u32, d: u32) -> u32 {
+    (0..16)
+        .map(|bit| {
+            let (s, d) = (s >> bit & 1, d >> bit & 1);
+            (u32::from(code) >> (2 * s + d) & 1) << bit
+        })
+        .sum()
+}
+
+/// Draws a list on the sheet, each command changing all its pixels at once.
+pub fn draw(screen: &[u8], list: &[u8], words: &[u16], sheet: &mut [u8]) {
+    let mut words = words.iter();
+    let mut before = Vec::new();
+    for command in list.chunks(32) {
+        let on = surface(screen, command[1]);
+        let code = command[2];
+        let (x, y) = (number(command, 4), number(command, 6));
+        let (width, height) = (number(command, 8), number(command, 10));
+        let (source_x, source_y) = (number(command, 12), number(command, 14));
+        let colour = number(command, 16) as u32;
+        // What the surface held just before: the sheet up to its end.
+        before.clear();
+        before.extend_from_slice(&sheet[..on.address(0, on.height)]);
+        for j in 0..height {
+            let line: Vec<u16> = match command[0] {
+                2 => words.by_ref().take((width * on.depth / 8 + 1) / 2).copied().collect(),
+                _ => Vec::new(),
+            };
+            for i in 0..width {
+                let d = on.pixel(&before, x + i, y + j);
+                let pixel = match command[0] {
+                    0 => colour,
+                    1 => {
+                        let s = on.pixel(&before, source_x + i, source_y + j);
+                        combined(code, s, d)
+                    }
+                    _ if on.depth == 16 => combined(code, line[i].into(), d),
+                    _ => combined(code, line[i / 2].to_le_bytes()[i % 2].into(), d),
+                };
+                on.set(sheet, x + i, y + j, pixel % 2u32.pow(on.depth as u32));
+            }
+        }
+    }
+}
+
+/// What the sheet shows at panel point (p, q).
+pub fn shows(screen: &[u8], sheet: &[u8], p: usize, q: usize) -> u32 {
+    let (panel_width, panel_height) = (number(screen, 4), number(screen, 6));
+    let (u, v) = match screen[1] {
+        0 => (p, q),
+        1 => (panel_height - 1 - q, p),
+        2 => (panel_width - 1 - p, panel_height - 1 - q),
+        _ => (q, panel_width - 1 - p),
+    };
+    let window = surface(screen, 1);
+    let (x, y) = (number(screen, 16), number(screen, 18));
+    let in_window =
+        screen[2] == 1 && (x..x + window.width).contains(&u) && (y..y + window.height).contains(&v);
+    if in_window {
+        window.pixel(sheet, u - x, v - y)
+    } else {
+        surface(screen, 0).pixel(sheet, u, v)
+    }
+}

@@ -1,0 +1,111 @@
+//! The proved library, by the functions of include/s1d.h.
+
+use crate::answers::{Compiled, Drawn, Played, Point, Settings};
+
+extern "C" {
+    fn s1d_compile(
+        screen: *const u8,
+        screen_length: usize,
+        list: *const u8,
+        list_length: usize,
+        words: *const u16,
+        words_length: usize,
+        stream: *mut u8,
+        stream_length: usize,
+    ) -> Compiled;
+
+    fn s1d_play(
+        stream: *const u8,
+        stream_length: usize,
+        memory: *mut u8,
+        memory_length: usize,
+    ) -> Played;
+
+    fn s1d_read_point(
+        depth: u32,
+        rotation: u32,
+        flag: u32,
+        width: u32,
+        height: u32,
+        values: *const u32,
+        p: u32,
+        q: u32,
+        memory: *const u8,
+        memory_length: usize,
+    ) -> Point;
+
+    fn s1d_draw(
+        screen: *const u8,
+        screen_length: usize,
+        list: *const u8,
+        list_length: usize,
+        words: *const u16,
+        words_length: usize,
+        stream: *mut u8,
+        stream_length: usize,
+        memory: *mut u8,
+        memory_length: usize,
+    ) -> Drawn;
+}
+
+// Each pointer below comes from a slice with its length, and a slice lent for writing is lent to
+// nobody else.
+
+pub fn compile(screen: &[u8], list: &[u8], words: &[u16], stream: &mut [u8]) -> Compiled {
+    unsafe {
+        s1d_compile(
+            screen.as_ptr(),
+            screen.len(),
+            list.as_ptr(),
+            list.len(),
+            words.as_ptr(),
+            words.len(),
+            stream.as_mut_ptr(),
+            stream.len(),
+        )
+    }
+}
+
+pub fn play(stream: &[u8], memory: &mut [u8]) -> Played {
+    unsafe { s1d_play(stream.as_ptr(), stream.len(), memory.as_mut_ptr(), memory.len()) }
+}
+
+pub fn read_point(screen: &Settings, p: u32, q: u32, memory: &[u8]) -> Point {
+    unsafe {
+        s1d_read_point(
+            screen.depth,
+            screen.rotation,
+            screen.flag,
+            screen.width,
+            screen.height,
+            screen.values.as_ptr(),
+            p,
+            q,
+            memory.as_ptr(),
+            memory.len(),
+        )
+    }
+}
+
+pub fn draw(
+    screen: &[u8],
+    list: &[u8],
+    words: &[u16],
+    stream: &mut [u8],
+    memory: &mut [u8],
+) -> Drawn {
+    unsafe {
+        s1d_draw(
+            screen.as_ptr(),
+            screen.len(),
+            list.as_ptr(),
+            list.len(),
+            words.as_ptr(),
+            words.len(),
+            stream.as_mut_ptr(),
+            stream.len(),
+            memory.as_mut_ptr(),
+            memory.len(),
+        )
+    }
+}
