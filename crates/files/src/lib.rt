@@ -1,0 +1,135 @@
+// What the programs share: the files that their arguments name, their buffers, and the line of a refusal. All that C reads or
+// writes is outside what a contract can say; these functions are proved safe, and a count is within its buffer.
+ghost use mathlib.Core.Path.{_≡_};
+ghost use lib.ListN.{length};
+ghost use Rattle.io.specs.Counts.{Counts};
+use libc::STDERR_FILENO;
+use libc::STDOUT_FILENO;
+
+// The most host words that a program takes.
+const MOST_WORDS: usize = 262144;
+
+// Whether all went well, and how many numbers of the buffer were filled.
+pub struct Loaded {
+    pub ok: bool,
+    pub n: usize,
+}
+
+// Bytes of a word file, one more than the most, so that a longer file is seen.
+fn word_bytes() -> [u8; 524289]
+    ensures { λ r. ⌜ 524289 ≡ length r ⌝ }
+{
+    [0; 524289]
+}
+
+// Room for 262,144 host words.
+pub fn words() -> [u16; 262144]
+    ensures { λ r. ⌜ 262144 ≡ length r ⌝ }
+{
+    [0; 262144]
+}
+
+// Room for a stream of 2 MiB: 262,144 records.
+pub fn stream() -> [u8; 2097152]
+    ensures { λ r. ⌜ 2097152 ≡ length r ⌝ }
+{
+    [0; 2097152]
+}
+
+// Writes a line to standard error: what is wrong, and how.
+pub fn say(what: &[u8], how: &[u8]) {
+    io::write_all(STDERR_FILENO, what);
+    io::write_all(STDERR_FILENO, b": ");
+    io::write_all(STDERR_FILENO, how);
+    io::write_all(STDERR_FILENO, b"\n");
+}
+
+// Writes bytes to standard output, or says on standard error why they could not be.
+pub fn print(text: &[u8]) -> bool {
+    if io::write_all(STDOUT_FILENO, text) {
+        return true;
+    }
+    os::fail(b"standard output");
+    false
+}
+
+// Writes the line of a refusal.
+pub fn print_refusal(number: u64, place: u64) {
+    io::write_all(STDOUT_FILENO, b"refused ");
+    io::print_decimal(STDOUT_FILENO, number);
+    io::write_all(STDOUT_FILENO, b" ");
+    io::print_decimal(STDOUT_FILENO, place);
+    io::write_all(STDOUT_FILENO, b"\n");
+}
+
+// Whether a read finds the end of the input, and no error.
+fn at_end(fd: i32) -> bool {
+    let mut one = [0u8; 1];
+    libc::read(fd, &mut one) == 0
+}
+
+// Reads a file into the buffer, as much of it as there is room for; or says why it cannot be read.
+fn load_path(path: &[u8], buffer: &mut [u8]) -> Loaded
+    ensures { λ r. ⌜ Counts (r .n) (now (buffer .exit)) ⌝ }
+{
+    let fd = os::open_read(path);
+    if fd < 0 {
+        os::fail(path);
+        return Loaded { ok: false, n: 0 };
+    }
+    let n = io::read_full(fd, buffer);
+    let ok = n == buffer.len() || at_end(fd);
+    if !ok {
+        os::fail(path);
+    }
+    libc::close(fd);
+    Loaded { ok, n }
+}
+
+// Reads the file that argument i names.
+pub fn load(i: usize, buffer: &mut [u8]) -> Loaded
+    ensures { λ r. ⌜ Counts (r .n) (now (buffer .exit)) ⌝ }
+{
+    let mut path = io::buffer();
+    let n = os::arg(i, &mut path);
+    if os::errno() != 0 {
+        os::fail(b"argument");
+        return Loaded { ok: false, n: 0 };
+    }
+    load_path(&path[..n], buffer)
+}
+
+// Whether argument i is left out: there is none, or it is a single `-`.
+pub fn is_left_out(i: usize) -> bool {
+    if os::arg_count() <= i {
+        return true;
+    }
+    let mut path = io::buffer();
+    let n = os::arg(i, &mut path);
+    n == 1 && path[0] == b'-'
+}
+
+// Reads the host words of the file that argument i names, two bytes each; none where it is left out.
+pub fn load_words(i: usize, words: &mut [u16]) -> Loaded
+    ensures { λ r. ⌜ Counts (r .n) (now (words .exit)) ⌝ }
+{
+    if is_left_out(i) {
+        return Loaded { ok: true, n: 0 };
+    }
+    let mut bytes = word_bytes();
+    let b = load(i, &mut bytes);
+    let n = b.n;
+    if !b.ok {
+        return Loaded { ok: false, n: 0 };
+    }
+    if 2 * MOST_WORDS < n {
+        say(b"host words", b"more than 262144");
+        return Loaded { ok: false, n: 0 };
+    }
+    if n % 2 != 0 {
+        say(b"host words", b"an odd number of bytes");
+        return Loaded { ok: false, n: 0 };
+    }
+    let n = text::words_of(&bytes[..n], words);
+    Loaded { ok: true, n }
+}

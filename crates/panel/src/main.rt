@@ -1,0 +1,137 @@
+// panel SCREEN LIST [WORDS [MEMORY]]
+// Draws the command list and the host words of the named files over a display memory, and writes what the panel then shows
+// to standard output: a grey picture (PGM, P5) at depths 1 to 8, a colour picture (PPM, P6) at depth 16. A refusal is the one
+// line `refused NUMBER PLACE`. Where a file cannot be read, or its words not be taken, standard output stays empty.
+//
+// WORDS: two bytes a word, low byte first, at most 262,144 words; none where it is left out or `-`. MEMORY: 262,144 bytes
+// before the drawing; zeros where it is left out or `-`. The stream: at most 2,097,152 bytes, else 17. The buffers are on the
+// stack.
+ghost use mathlib.Core.Path.{_≡_};
+ghost use lib.ListN.{length};
+ghost use Rattle.io.specs.Counts.{Counts};
+use files::Loaded;
+use libc::STDOUT_FILENO;
+use reader::Display;
+use screen::ScreenAnswer;
+use screen::ScreenValues;
+use unit::Drawn;
+
+// A display memory of zeros, and one byte more, so that a longer file is seen.
+fn zeros() -> [u8; 262145]
+    ensures { λ r. ⌜ 262145 ≡ length r ⌝ }
+{
+    [0; 262145]
+}
+
+// The display memory of the file that argument i names; 262,144 bytes as they are where it is left out.
+fn load_memory(i: usize, memory: &mut [u8]) -> Loaded
+    ensures { λ r. ⌜ Counts (r .n) (now (memory .exit)) ⌝ }
+{
+    if files::is_left_out(i) {
+        let n = io::count(262144, memory);
+        return Loaded { ok: true, n };
+    }
+    files::load(i, memory)
+}
+
+// The picture's first lines: its kind, its size and its highest value.
+fn print_head(d: Display) -> bool {
+    if d.depth == 16 {
+        io::write_all(STDOUT_FILENO, b"P6\n");
+    } else {
+        io::write_all(STDOUT_FILENO, b"P5\n");
+    }
+    io::print_decimal(STDOUT_FILENO, d.width as u64);
+    io::write_all(STDOUT_FILENO, b" ");
+    io::print_decimal(STDOUT_FILENO, d.height as u64);
+    io::write_all(STDOUT_FILENO, b"\n");
+    io::print_decimal(STDOUT_FILENO, picture::highest_value(d.depth) as u64);
+    files::print(b"\n")
+}
+
+// Line q of the picture: at most 1,024 points of three bytes.
+fn print_line(d: Display, values: ScreenValues, q: u32, memory: &[u8]) -> bool {
+    let mut line = [0u8; 3072];
+    let n = picture::put_points(d, values, q, memory, &mut line);
+    files::print(&line[..n])
+}
+
+// The whole picture.
+fn print_picture(d: Display, values: ScreenValues, memory: &[u8]) {
+    if !print_head(d) {
+        return;
+    }
+    let mut q = 0;
+    while q < d.height {
+        if !print_line(d, values, q, memory) {
+            return;
+        }
+        q += 1;
+    }
+}
+
+// The picture of a screen with the six values that playing left, over the memory that drawing left.
+fn show(screen: &[u8], values: ScreenValues, memory: &[u8]) {
+    let answer = screen_code::read_screen(screen);
+    match answer {
+        ScreenAnswer::Refused(n) => {
+            files::print_refusal(n as u64, 0);
+        }
+        ScreenAnswer::Accepted(s) => {
+            let d = Display {
+                depth: s.depth as u32,
+                rotation: s.rotation as u32,
+                flag: s.flag as u32,
+                width: s.width as u32,
+                height: s.height as u32,
+            };
+            print_picture(d, values, memory);
+        }
+    }
+}
+
+fn run(screen: &[u8], list: &[u8], words: &[u16], memory: &mut [u8]) {
+    let mut stream = files::stream();
+    let drawn = unit_code::draw(screen, list, words, &mut stream, memory);
+    match drawn {
+        Drawn::Refused(n, i) => {
+            files::print_refusal(n as u64, i);
+        }
+        Drawn::Accepted(length, values) => {
+            show(screen, values, memory);
+        }
+    }
+}
+
+fn main() {
+    let count = os::arg_count();
+    if count < 3 || 5 < count {
+        files::say(b"usage", b"panel SCREEN LIST [WORDS [MEMORY]]");
+        return;
+    }
+    let mut screen = [0u8; 33];
+    let s = files::load(1, &mut screen);
+    if !s.ok {
+        return;
+    }
+    let mut list = [0u8; 2049];
+    let l = files::load(2, &mut list);
+    if !l.ok {
+        return;
+    }
+    let mut words = files::words();
+    let w = files::load_words(3, &mut words);
+    if !w.ok {
+        return;
+    }
+    let mut memory = zeros();
+    let m = load_memory(4, &mut memory);
+    if !m.ok {
+        return;
+    }
+    let ns = s.n;
+    let nl = l.n;
+    let nw = w.n;
+    let nm = m.n;
+    run(&screen[..ns], &list[..nl], &words[..nw], &mut memory[..nm]);
+}

@@ -1,0 +1,37 @@
+-- The panel as a picture, in the portable formats: one byte for a point at depths 1 to 8, red, green and blue at depth 16.
+use Prim.Native.Nat.{ℕ, _+_, _-_, _*_, _/_, _%_, _^_, min}
+use mathlib.Core.List.{List, [], _∷_}
+use mathlib.Core.Bool.{cond}
+use lib.Dec.{eqb}
+use Rattle.screen.specs.Screen.{memorySize}
+use Rattle.screen.specs.declared.ScreenValues.{ScreenValues}
+use Rattle.reader.specs.Read.{reading}
+use Rattle.reader.specs.declared.Display.{Display}
+
+-- the highest value in the picture
+abbrev pub highest : ℕ → ℕ
+highest depth = 2 ^ min depth 8 - 1
+
+-- bytes of a pixel
+unfoldable pub pixelSize : ℕ → ℕ
+pixelSize depth = cond (eqb depth 16) 3 1
+
+-- five or six bits widened to eight: the highest bits again in the place of the missing ones
+abbrev pub fromFive : ℕ → ℕ
+fromFive x = 8 * x + x / 4
+
+abbrev pub fromSix : ℕ → ℕ
+fromSix x = 4 * x + x / 16
+
+-- a colour's bytes: at depth 16 red from its five highest bits, green from the six below, blue from the five lowest
+unfoldable pub pixelBytes : ℕ → ℕ → List ℕ
+pixelBytes depth c =
+    cond (eqb depth 16) (fromFive (c / 2048 % 32) ∷ fromSix (c / 32 % 64) ∷ fromFive (c % 32) ∷ []) (c % 256 ∷ [])
+
+-- the bytes of panel point (p, q): the colour that the point reader gives, 0 where it refuses
+unfoldable pub pointBytes : Display → ScreenValues → ℕ → List ℕ → ℕ → List ℕ
+pointBytes d values q memory p = pixelBytes (d .depth) (reading memorySize d values p q memory .colour)
+
+-- points of a line of the panel that have room
+abbrev pub pixelsIn : Display → ℕ → ℕ
+pixelsIn d room = min (d .width) (room / pixelSize (d .depth))

@@ -1,0 +1,56 @@
+-- The answers of the C library (include/s1d.h): the numbers of 01, "Refusal numbers", field by field.
+use Prim.Native.Nat.{ℕ}
+use mathlib.Core.List.{List}
+use lib.ListN.{getD}
+use Rattle.screen.specs.declared.ScreenValues.{ScreenValues}
+use Rattle.compiler.specs.Stream.{sixValues}
+use Rattle.compiler.specs.Compile.{Compiling}
+use Rattle.compiler.specs.Part.{partFrom, partSize}
+use Rattle.chip.specs.Play.{Playing}
+use Rattle.reader.specs.Read.{Reading}
+use Rattle.reader.specs.declared.Display.{Display}
+use Rattle.unit.specs.Draw.{Drawing}
+use Rattle.s1d.specs.declared.S1dCompiled.{S1dCompiled}
+use Rattle.s1d.specs.declared.S1dPlayed.{S1dPlayed}
+use Rattle.s1d.specs.declared.S1dPoint.{S1dPoint}
+use Rattle.s1d.specs.declared.S1dDrawn.{S1dDrawn}
+
+-- compiling's numbers, and where the refused command's part of the list starts, with its length
+unfoldable pub compiledOf : Compiling → List ℕ → S1dCompiled
+compiledOf c list =
+    record {
+      number = c .number;
+      place = c .place;
+      length = c .length;
+      depth = c .depth;
+      rotation = c .rotation;
+      flag = c .flag;
+      «part_at» = partFrom list c;
+      «part_length» = partSize list c;
+    }
+
+-- playing's number, place and six values
+unfoldable pub playedOf : Playing → S1dPlayed
+playedOf p = record { number = p .number; place = p .place; values = sixValues (p .values) }
+
+-- the panel's settings from their numbers
+abbrev pub displayWith : ℕ → ℕ → ℕ → ℕ → ℕ → Display
+displayWith depth rotation flag width height = record { depth = depth; rotation = rotation; flag = flag; width = width; height = height }
+
+-- the screen values from six numbers: main start, main offset, window start, window offset, X, Y
+abbrev pub valuesWith : List ℕ → ScreenValues
+valuesWith v =
+    record {
+      main = record { start = getD v 0 0; offset = getD v 1 0 };
+      window = record { start = getD v 2 0; offset = getD v 3 0 };
+      x = getD v 4 0;
+      y = getD v 5 0;
+    }
+
+-- the reader's number and colour
+unfoldable pub pointOf : Reading → S1dPoint
+pointOf r = record { number = r .number; colour = r .colour }
+
+-- drawing's number, place, length and six values
+unfoldable pub drawnOf : Drawing → S1dDrawn
+drawnOf d = record { number = d .number; place = d .place; length = d .length; values = sixValues (d .values) }

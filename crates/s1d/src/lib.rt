@@ -1,0 +1,225 @@
+// The C library: the functions of include/s1d.h.
+ghost use mathlib.Core.Path.{_≡_};
+ghost use lib.ListN.{length};
+ghost use Rattle.screen.specs.Screen.{memorySize};
+ghost use Rattle.compiler.specs.Stream.{sixValues};
+ghost use Rattle.compiler.specs.Compile.{compiling, bufferAfter};
+ghost use Rattle.chip.specs.Play.{playing, played};
+ghost use Rattle.reader.specs.Read.{reading};
+ghost use Rattle.unit.specs.Draw.{drawing, streamDrawn, memoryDrawn};
+ghost use Rattle.s1d.specs.Answers.{compiledOf, playedOf, displayWith, valuesWith, pointOf, drawnOf};
+ghost use Rattle.s1d.specs.Narrow.{Narrow};
+use chip::Played;
+use compiler::Compiled;
+use reader::Display;
+use reader::PointAnswer;
+use screen::Origin;
+use screen::ScreenValues;
+use unit::Drawn;
+
+// What compiling gives back, and where the refused command stands in the list.
+#[repr(C)]
+pub struct S1dCompiled {
+    pub number: u32,
+    pub place: u64,
+    pub length: u64,
+    pub depth: u32,
+    pub rotation: u32,
+    pub flag: u32,
+    pub part_at: u64,
+    pub part_length: u64,
+}
+
+// What playing gives back: the values are main start, main offset, window start, window offset, X and Y.
+#[repr(C)]
+pub struct S1dPlayed {
+    pub number: u32,
+    pub place: u64,
+    pub values: [u32; 6],
+}
+
+// What the point reader gives back.
+#[repr(C)]
+pub struct S1dPoint {
+    pub number: u32,
+    pub colour: u32,
+}
+
+// What drawing gives back: compiling's length and playing's values.
+#[repr(C)]
+pub struct S1dDrawn {
+    pub number: u32,
+    pub place: u64,
+    pub length: u64,
+    pub values: [u32; 6],
+}
+
+// Compiles a screen record, a list and host words into the stream buffer.
+#[no_mangle]
+pub extern "C" fn s1d_compile(
+    screen: &[u8],
+    list: &[u8],
+    words: &[u16],
+    stream: &mut [u8],
+) -> S1dCompiled
+    ensures { λ r. ⌜ r ≡ compiledOf (compiling memorySize (now (screen .entry)) (now (list .entry)) (now (words .entry)) (length (now (stream .entry)))) (now (list .entry)) ⌝ }
+    ensures { λ r. ⌜ now (stream .exit) ≡ bufferAfter memorySize (now (screen .entry)) (now (list .entry)) (now (words .entry)) (now (stream .entry)) ⌝ }
+{
+    let count = list.len() as u64 / 32;
+    let answer = compiler_code::compile_into(screen, list, words, stream);
+    match answer {
+        Compiled::Accepted(length, depth, rotation, flag) => S1dCompiled {
+            number: 0,
+            place: 0,
+            length,
+            depth,
+            rotation,
+            flag,
+            part_at: 0,
+            part_length: 0,
+        },
+        Compiled::Refused(number, place) => {
+            if !((12 <= number) & ((number <= 15) & (place < count))) {
+                return S1dCompiled {
+                    number,
+                    place,
+                    length: 0,
+                    depth: 0,
+                    rotation: 0,
+                    flag: 0,
+                    part_at: 0,
+                    part_length: 0,
+                };
+            }
+            S1dCompiled {
+                number,
+                place,
+                length: 0,
+                depth: 0,
+                rotation: 0,
+                flag: 0,
+                part_at: place * 32,
+                part_length: 32,
+            }
+        }
+    }
+}
+
+// The six values in the header's order.
+fn six_values(v: ScreenValues) -> [u32; 6]
+    requires { ⌜ Narrow v ⌝ }
+    ensures { λ r. ⌜ r ≡ sixValues v ⌝ }
+{
+    let main = v.main;
+    let window = v.window;
+    [
+        main.start as u32,
+        main.offset as u32,
+        window.start as u32,
+        window.offset as u32,
+        v.x as u32,
+        v.y as u32,
+    ]
+}
+
+// Plays a stream over the display memory.
+#[no_mangle]
+pub extern "C" fn s1d_play(stream: &[u8], memory: &mut [u8]) -> S1dPlayed
+    ensures { λ r. ⌜ r ≡ playedOf (playing memorySize (now (stream .entry)) (now (memory .entry))) ⌝ }
+    ensures { λ r. ⌜ now (memory .exit) ≡ played memorySize (now (stream .entry)) (now (memory .entry)) ⌝ }
+{
+    let answer = chip_code::play(stream, memory);
+    match answer {
+        Played::Accepted(v) => S1dPlayed {
+            number: 0,
+            place: 0,
+            values: six_values(v),
+        },
+        Played::Refused(number, place) => S1dPlayed {
+            number,
+            place: place as u64,
+            values: [0, 0, 0, 0, 0, 0],
+        },
+    }
+}
+
+// The screen values from six numbers in the header's order.
+fn values_given(six: [u32; 6]) -> ScreenValues
+    ensures { λ r. ⌜ r ≡ valuesWith six ⌝ }
+{
+    ScreenValues {
+        main: Origin {
+            start: six[0] as u64,
+            offset: six[1] as u64,
+        },
+        window: Origin {
+            start: six[2] as u64,
+            offset: six[3] as u64,
+        },
+        x: six[4] as u64,
+        y: six[5] as u64,
+    }
+}
+
+// The colour that panel point (p, q) shows.
+#[no_mangle]
+pub extern "C" fn s1d_read_point(
+    depth: u32,
+    rotation: u32,
+    flag: u32,
+    width: u32,
+    height: u32,
+    values: &[u32; 6],
+    p: u32,
+    q: u32,
+    memory: &[u8],
+) -> S1dPoint
+    ensures { λ r. ⌜ r ≡ pointOf (reading memorySize (displayWith depth rotation flag width height) (valuesWith (now (values .entry))) p q (now (memory .entry))) ⌝ }
+{
+    let d = Display {
+        depth,
+        rotation,
+        flag,
+        width,
+        height,
+    };
+    let v = values_given(*values);
+    let answer = reader_code::read_point(d, v, p, q, memory);
+    match answer {
+        PointAnswer::Colour(colour) => S1dPoint {
+            number: 0,
+            colour: colour as u32,
+        },
+        PointAnswer::Refused(number) => S1dPoint { number, colour: 0 },
+    }
+}
+
+// Compiles, then plays the stream.
+#[no_mangle]
+pub extern "C" fn s1d_draw(
+    screen: &[u8],
+    list: &[u8],
+    words: &[u16],
+    stream: &mut [u8],
+    memory: &mut [u8],
+) -> S1dDrawn
+    ensures { λ r. ⌜ r ≡ drawnOf (drawing memorySize (now (screen .entry)) (now (list .entry)) (now (words .entry)) (length (now (stream .entry))) (now (memory .entry))) ⌝ }
+    ensures { λ r. ⌜ now (stream .exit) ≡ streamDrawn memorySize (now (screen .entry)) (now (list .entry)) (now (words .entry)) (now (stream .entry)) (now (memory .entry)) ⌝ }
+    ensures { λ r. ⌜ now (memory .exit) ≡ memoryDrawn memorySize (now (screen .entry)) (now (list .entry)) (now (words .entry)) (length (now (stream .entry))) (now (memory .entry)) ⌝ }
+{
+    let answer = unit_code::draw(screen, list, words, stream, memory);
+    match answer {
+        Drawn::Accepted(length, v) => S1dDrawn {
+            number: 0,
+            place: 0,
+            length,
+            values: six_values(v),
+        },
+        Drawn::Refused(number, place) => S1dDrawn {
+            number,
+            place,
+            length: 0,
+            values: [0, 0, 0, 0, 0, 0],
+        },
+    }
+}

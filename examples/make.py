@@ -1,0 +1,108 @@
+#!/usr/bin/env python3
+"""Writes the example files beside it: a wear chart of 24 hourly columns, upright and turned, in grey and in colour, and damaged
+ones. The same list and words serve every rotation; only the screen record differs."""
+import struct
+from pathlib import Path
+
+HERE = Path(__file__).resolve().parent
+WIDTH, HEIGHT = 96, 64                       # the view, as a person sees it
+WINDOW = (8, 3, 24, 11)                      # x, y, width, height of the small window, which holds the number
+FILL, MOVE, WRITE = 0, 1, 2
+MAIN, SMALL = 0, 1
+COPY = 0xC
+
+# minutes worn in each of 25 hours; the last one arrives after the chart is drawn
+WORN = [52, 60, 60, 58, 60, 60, 44, 12, 30, 48, 55, 60, 20, 0, 0, 15, 40, 52, 60, 57, 60, 60, 49, 54, 60]
+
+GREY = {'paper': 0xE8, 'line': 0x50, 'bar': 0x90, 'low': 0xC0, 'new': 0x30, 'ink': 0x00, 'box': 0xFF}
+COLOUR = {name: r >> 3 << 11 | g >> 2 << 5 | b >> 3 for name, (r, g, b) in {
+    'paper': (244, 240, 228), 'line': (96, 96, 96), 'bar': (70, 130, 180), 'low': (222, 150, 70),
+    'new': (30, 70, 130), 'ink': (16, 16, 16), 'box': (255, 255, 255)}.items()}
+
+DIGITS = {'0': '01110 10001 10011 10101 11001 10001 01110', '1': '00100 01100 00100 00100 00100 00100 01110',
+          '2': '01110 10001 00001 00110 01000 10000 11111', '3': '01110 10001 00001 00110 00001 10001 01110',
+          '4': '00010 00110 01010 10010 11111 00010 00010', '5': '11111 10000 11110 00001 00001 10001 01110',
+          '6': '01110 10000 10000 11110 10001 10001 01110', '7': '11111 00001 00010 00100 01000 01000 01000',
+          '8': '01110 10001 10001 01110 10001 10001 01110', '9': '01110 10001 10001 01111 00001 00001 01110',
+          'h': '10000 10000 10110 11001 10001 10001 10001'}
+MARKER = ['11111', '01110', '00100']
+
+
+def screen(depth, rotation, width, height):
+    x, y, w, h = WINDOW
+    base = WIDTH * HEIGHT * depth // 8
+    return struct.pack('<BBBBHHIIHHHH8x', depth, rotation, 1, 0, width, height, 0, base, x, y, w, h)
+
+
+def command(operation, surface, x, y, w, h, raster=0, source=(0, 0), colour=0):
+    return struct.pack('<BBBBHHHHHHH14x', operation, surface, raster, 0, x, y, w, h, *source, colour)
+
+
+def words_of(rows, depth):
+    """A write's host words: a word a pixel at depth 16; at depth 8 two pixels a word, low byte first, each line by itself."""
+    words = []
+    for row in rows:
+        if depth == 16:
+            words += row
+        else:
+            row = row + [0] * (len(row) % 2)
+            words += [low + 256 * high for low, high in zip(row[::2], row[1::2])]
+    return words
+
+
+def glyphs(text, ink, box):
+    rows = [[], [], [], [], [], [], []]
+    for i, letter in enumerate(text):
+        for row, bits in zip(rows, DIGITS[letter].split()):
+            row += ([box] if i else []) + [ink if bit == '1' else box for bit in bits]
+    return rows
+
+
+def bar(column, minutes, colour):
+    height = 1 + minutes * 2 // 3
+    return command(FILL, MAIN, 12 + 3 * column, 56 - height, 2, height, colour=colour)
+
+
+def chart(depth, c):
+    """The command list and the host words."""
+    shade = lambda minutes: c['bar'] if minutes >= 30 else c['low']
+    x, y, w, h = WINDOW
+    number = glyphs(str(sum(WORN[1:]) // 60) + 'h', c['ink'], c['box'])
+    marker = [[c['new'] if bit == '1' else c['paper'] for bit in row] for row in MARKER]
+    commands = [command(FILL, MAIN, 0, 0, WIDTH, HEIGHT, colour=c['paper']),
+                command(FILL, MAIN, 10, 56, 76, 1, colour=c['line']),
+                command(FILL, MAIN, 10, 15, 1, 42, colour=c['line'])]
+    commands += [command(FILL, MAIN, 12 + 18 * i, 57, 2, 2, colour=c['line']) for i in range(4)]
+    commands += [bar(i, minutes, shade(minutes)) for i, minutes in enumerate(WORN[:24])]
+    commands += [command(MOVE, MAIN, 12, 15, 69, 41, raster=COPY, source=(15, 15)),      # one column to the left
+                 command(FILL, MAIN, 81, 15, 3, 41, colour=c['paper']),
+                 bar(23, WORN[24], c['new']),
+                 command(WRITE, MAIN, 80, 10, 5, 3, raster=COPY),                        # the marker over the newest hour
+                 command(FILL, SMALL, 0, 0, w, h, colour=c['box']),
+                 command(WRITE, SMALL, 3, 2, len(number[0]), 7, raster=COPY)]            # the hours worn
+    words = words_of(marker, depth) + words_of(number, depth)
+    return b''.join(commands), struct.pack(f'<{len(words)}H', *words)
+
+
+def write(name, data):
+    (HERE / name).write_bytes(data)
+
+
+commands, words = chart(8, GREY)
+write('chart.list', commands)
+write('chart.words', words)
+write('upright.screen', screen(8, 0, WIDTH, HEIGHT))
+write('turned-90.screen', screen(8, 1, HEIGHT, WIDTH))
+write('turned-180.screen', screen(8, 2, WIDTH, HEIGHT))
+write('turned-270.screen', screen(8, 3, HEIGHT, WIDTH))
+in_colour, more_words = chart(16, COLOUR)
+write('colour.list', in_colour)
+write('colour.words', more_words)
+write('colour.screen', screen(16, 0, WIDTH, HEIGHT))
+write('colour-90.screen', screen(16, 1, HEIGHT, WIDTH))
+
+write('damaged.screen', screen(8, 0, WIDTH + 4, HEIGHT))           # a panel width that is no multiple of 8: refused 4
+at = 7 * 32 + 10                                                   # command 7, the first bar: its height
+write('damaged.list', commands[:at] + struct.pack('<H', 60) + commands[at + 2:])     # past the view's last line: refused 14 7
+write('damaged.words', words[:-2])                                 # one word short: refused 15 at the last write
+write('odd.words', words[:-1])                                     # half a word: a message, and no output
