@@ -13,29 +13,29 @@ use Rattle.command.specs.declared.Command.{Command}
 -- an upright screen with a window of 8 by 4 at byte 1,024
 abbrev screen : ℕ → ℕ → ℕ → Screen
 screen depth width height =
-    record
-    { depth = depth
-    ; rotation = 0
-    ; flag = 1
-    ; width = width
-    ; height = height
-    ; base = 0
-    ; window = record { base = 1024; x = 0; y = 0; width = 8; height = 4 }
+    record {
+      depth = depth;
+      rotation = 0;
+      flag = 1;
+      width = width;
+      height = height;
+      base = 0;
+      window = record { base = 1024; x = 0; y = 0; width = 8; height = 4 };
     }
 
 abbrev command : ℕ → ℕ → ℕ → ℕ → ℕ → ℕ → ℕ → ℕ → ℕ → ℕ → Command
 command operation surface raster x y width height sx sy colour =
-    record
-    { operation = operation
-    ; surface = surface
-    ; raster = raster
-    ; x = x
-    ; y = y
-    ; width = width
-    ; height = height
-    ; sx = sx
-    ; sy = sy
-    ; colour = colour
+    record {
+      operation = operation;
+      surface = surface;
+      raster = raster;
+      x = x;
+      y = y;
+      width = width;
+      height = height;
+      sx = sx;
+      sy = sy;
+      colour = colour;
     }
 
 pub values-hold : (blitValues (screen 8 320 240) (command 0 0 0 10 20 100 150 0 0 1) ≡ 0x0C ∷ 0 ∷ 0x190A ∷ 0xA0 ∷ 0x63 ∷ 0x95 ∷ 0 ∷ 1 ∷ 1 ∷ [])

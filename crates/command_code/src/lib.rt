@@ -5,8 +5,8 @@ ghost use lib.ListN.{length};
 ghost use Rattle.record.specs.Checks.{firstOf};
 ghost use Rattle.command.specs.Command.{commandOf, surfaceOf, unusedZero, formed, insideImage, placed, lineWords, wordsTaken, commandRows, refusal, commandAnswer, numberOf};
 ghost use Rattle.command.specs.Values.{addressOf, isNegative, lastColumn, lastLine, commandValue, sourceValue, destinationValue, controlValue, blitValues};
-
-use command::{Command, CommandAnswer};
+use command::Command;
+use command::CommandAnswer;
 use screen::Image;
 use screen::Screen;
 

@@ -10,10 +10,10 @@ ghost use Rattle.compiler.specs.Stream.{partsOf, recordsWith, screenRecords, da
 ghost use Rattle.compiler.specs.Compile.{commandSize, listRows, firstRefusal, compiling, bufferAfter, compilingOf, answerOf, numbersOf};
 ghost use Rattle.compiler.specs.Part.{RefusedPart};
 ghost use Rattle.compiler.specs.Pass.{passOf};
-
 use command::Command;
 use command::CommandAnswer;
-use compiler::{Compiled, Pass};
+use compiler::Compiled;
+use compiler::Pass;
 use screen::Screen;
 use screen::ScreenAnswer;
 

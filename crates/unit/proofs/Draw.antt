@@ -115,7 +115,7 @@ module _ (bytes list words old memory : List ℕ) where
         unfolding drawing streamDrawn memoryDrawn drawingOf playingOf
         draw-accepted v new p m =
             let values : v ≡ valuesOf (fieldsOf bytes) =
-                ap (λ (x : Playing). x .values) p ∙ ap (λ (x : List ℕ). playing memorySize x memory .values) given
-                ∙ values-given bytes list words old memory byte-list word-list byte-memory len none in
+            ap (λ (x : Playing). x .values) p ∙ ap (λ (x : List ℕ). playing memorySize x memory .values) given
+            ∙ values-given bytes list words old memory byte-list word-list byte-memory len none in
             rw (eq-eqb (length memory) memorySize len, eq-eqb (c .number) 0 none)
             ((λ t. record { number = 0; place = 0; length = size t; values = values t }), (buffer, m ∙ ap (λ (x : List ℕ). played memorySize x memory) given ∙ truly .same-bytes))

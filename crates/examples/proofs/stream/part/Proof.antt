@@ -1,0 +1,14 @@
+-- `stream::part` counts elements that there are.
+use native.Mathlib.Omega.{arith}
+use Rattle.io.proofs.Counting.{counts}
+use Rattle.examples.proofs.stream.part.Statement.{statement}
+use Rattle.examples.proofs.stream.part.Tie as tie
+
+returns : tie.Need-returns
+returns c = counts _ _ (omega arith)
+
+returns-2 : tie.Need-returns-2
+returns-2 c = counts _ _ (omega arith)
+
+pub part-spec : {M : Type 1} → statement M
+part-spec = tie.close (tie.spec returns returns-2)
