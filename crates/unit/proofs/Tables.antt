@@ -39,7 +39,7 @@ pub listed-numbered : (s : Screen) (left : ℕ) (bs : List (List ℕ)) → Numbe
 unfolding listedRows Numbered
 listed-numbered s left [] = tt
 listed-numbered s left (b ∷ bs) =
-    numbered-append (commandRows s left b (commandOf b)) _ (command-numbered s left b (commandOf b)) (listed-numbered s (left - wordsTaken s (commandOf b)) bs)
+    numbered-append (commandRows s left b (commandOf b)) _ (command-numbered s left b (commandOf b)) (listed-numbered s _ bs)
 
 end-numbered : (s : Screen) (commands : List (List ℕ)) (words : List ℕ) (room : ℕ) → Numbered (endRows s commands words room)
 unfolding Numbered endRows
