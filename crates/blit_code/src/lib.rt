@@ -55,7 +55,7 @@ fn fill_pixels(line: &mut [u8], bytes: usize, width: usize, colour: u16)
 {
     let mut i = 0;
     while i < width {
-        pixel::put_pixel(line, bytes, i * bytes, colour);
+        pixel_code::put_pixel(line, bytes, i * bytes, colour);
         i += 1;
     }
 }
@@ -67,7 +67,7 @@ fn copy_pixels(line: &mut [u8], bytes: usize, width: usize, source: &[u16])
 {
     let mut i = 0;
     while i < width {
-        pixel::put_pixel(line, bytes, i * bytes, source[i]);
+        pixel_code::put_pixel(line, bytes, i * bytes, source[i]);
         i += 1;
     }
 }
@@ -77,9 +77,9 @@ fn combine_pixel(line: &mut [u8], bytes: usize, at: usize, code: u8, v: u16)
     requires { ⌜ (0 < bytes) × (bytes ≤ 2) × (at + bytes ≤ length (now line)) ⌝ }
     ensures { λ _. ⌜ now (line .exit) ≡ putPixel bytes (now (line .entry)) at (raster (8 * bytes) code v (getPixel bytes (now (line .entry)) at)) ⌝ }
 {
-    let d = pixel::get_pixel(line, bytes, at);
-    let r = pixel::combine((8 * bytes) as u32, code, v, d);
-    pixel::put_pixel(line, bytes, at, r);
+    let d = pixel_code::get_pixel(line, bytes, at);
+    let r = pixel_code::combine((8 * bytes) as u32, code, v, d);
+    pixel_code::put_pixel(line, bytes, at, r);
 }
 
 // Pixels of a source line, combined with those of the line under a raster code, side by side.
@@ -119,7 +119,7 @@ fn lagged_pixel(
         return pixel;
     }
     let k = rank_of(down, width, n - lag);
-    pixel::get_pixel(line, bytes, k * bytes)
+    pixel_code::get_pixel(line, bytes, k * bytes)
 }
 
 // The pixels of a line whose source, from the lag on, is the line itself, one by one in the direction named.
@@ -195,7 +195,7 @@ fn read_pixels(memory: &[u8], bytes: usize, width: usize, at: usize, source: &mu
 {
     let mut i = 0;
     while i < width {
-        let v = pixel::get_pixel(memory, bytes, at + i * bytes);
+        let v = pixel_code::get_pixel(memory, bytes, at + i * bytes);
         source[i] = v;
         i += 1;
     }

@@ -449,12 +449,12 @@ fn draw_clipped(bytes: usize, code: u8, at: usize, pixel: u16, memory: &mut [u8]
 {
     let low = byte_at(memory, at);
     if bytes == 1 {
-        let v = pixel::combine(8, code, pixel, low);
+        let v = pixel_code::combine(8, code, pixel, low);
         store_byte(memory, at, (v % 256) as u8);
         return;
     }
     let high = byte_at(memory, at + 1);
-    let v = pixel::combine(16, code, pixel, low + 256 * high);
+    let v = pixel_code::combine(16, code, pixel, low + 256 * high);
     store_byte(memory, at, (v % 256) as u8);
     store_byte(memory, at + 1, (v / 256 % 256) as u8);
 }
@@ -495,7 +495,7 @@ fn write_word(b: Registers, d: Due, value: u32, memory: &mut [u8])
     let bytes = bytes_of(b);
     let per = 2 / bytes;
     let first = d.word as u64 * per;
-    let left = record::minus(width_of(b), first);
+    let left = record_code::minus(width_of(b), first);
     let count = least(per, left) as usize;
     let at = (destination_of(b) as u64 + (d.line as u64 * line_of(b) + first * bytes)) as usize;
     let size = bytes as usize;
@@ -535,7 +535,7 @@ fn check(memory: u64, stream: &[u8]) -> Run
     let mut chip = new_chip();
     let mut i = 0;
     while i < count {
-        let r = record::record_at(stream, i);
+        let r = record_code::record_at(stream, i);
         let number = refusal_of(memory, chip, r);
         if number != 0 {
             return Run {
@@ -563,7 +563,7 @@ fn perform_all(stream: &[u8], memory: &mut [u8])
     let mut chip = new_chip();
     let mut i = 0;
     while i < count {
-        let r = record::record_at(stream, i);
+        let r = record_code::record_at(stream, i);
         apply(chip, r, memory);
         chip = chip_after(chip, r);
         i += 1;

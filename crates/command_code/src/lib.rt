@@ -19,13 +19,13 @@ pub fn command_of(b: &[u8]) -> Command
         operation: b[0],
         surface: b[1],
         raster: b[2],
-        x: record::u16_at(b, 4),
-        y: record::u16_at(b, 6),
-        width: record::u16_at(b, 8),
-        height: record::u16_at(b, 10),
-        sx: record::u16_at(b, 12),
-        sy: record::u16_at(b, 14),
-        colour: record::u16_at(b, 16),
+        x: record_code::u16_at(b, 4),
+        y: record_code::u16_at(b, 6),
+        width: record_code::u16_at(b, 8),
+        height: record_code::u16_at(b, 10),
+        sx: record_code::u16_at(b, 12),
+        sy: record_code::u16_at(b, 14),
+        colour: record_code::u16_at(b, 16),
     }
 }
 
@@ -57,7 +57,7 @@ fn is_formed(s: Screen, b: &[u8], c: Command) -> bool
     requires { ⌜ length (now b) ≡ 32 ⌝ }
     ensures { λ r. ⌜ r ≡ formed s (now (b .entry)) c ⌝ }
 {
-    let rest = record::all_zero(&b[18..32]);
+    let rest = record_code::all_zero(&b[18..32]);
     let colour = (s.depth != 8) | (c.colour <= 255);
     let zero = is_unused_zero(c) & ((b[3] == 0) & rest);
     (c.operation <= 2) & ((c.surface <= s.flag) & ((c.raster <= 15) & (colour & zero)))

@@ -88,8 +88,8 @@ fn put_records(buffer: &mut [u8], at: usize, numbers: &[u32], values: &[u64])
     let mut i = 0;
     let mut to = at;
     while i < values.len() {
-        record::put_number(buffer, to, numbers[i] as u64);
-        record::put_number(buffer, to + 4, values[i]);
+        record_code::put_number(buffer, to, numbers[i] as u64);
+        record_code::put_number(buffer, to + 4, values[i]);
         to += 8;
         i += 1;
     }
@@ -103,8 +103,8 @@ fn put_words(buffer: &mut [u8], at: usize, words: &[u16])
     let mut i = 0;
     let mut to = at;
     while i < words.len() {
-        record::put_number(buffer, to, 0x10000);
-        record::put_number(buffer, to + 4, words[i] as u64);
+        record_code::put_number(buffer, to, 0x10000);
+        record_code::put_number(buffer, to + 4, words[i] as u64);
         to += 8;
         i += 1;
     }

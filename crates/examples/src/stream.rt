@@ -115,7 +115,7 @@ fn record_of(stream: &[u8], i: usize) -> Record {
             value: 0,
         };
     }
-    record::record_at(stream, i)
+    record_code::record_at(stream, i)
 }
 
 // Writes record i as 002 does; whether it is this register at this value.
@@ -242,6 +242,6 @@ pub fn put_addresses(stream: &mut [u8], values: [u32; 3]) {
 // Puts another value into record i.
 fn put_value(stream: &mut [u8], i: usize, value: u32) {
     if i < stream.len() / 8 {
-        record::put_number(stream, 8 * i + 4, value as u64);
+        record_code::put_number(stream, 8 * i + 4, value as u64);
     }
 }

@@ -38,7 +38,7 @@ pub fn read_point(d: Display, values: ScreenValues, p: u32, q: u32, memory: &[u8
     if 1 < flag {
         return PointAnswer::Refused(1);
     }
-    if !pixel::is_depth(depth) {
+    if !pixel_code::is_depth(depth) {
         return PointAnswer::Refused(2);
     }
     if 3 < rotation {
@@ -67,5 +67,5 @@ pub fn read_point(d: Display, values: ScreenValues, p: u32, q: u32, memory: &[u8
     if 65535 < dword {
         return PointAnswer::Refused(25);
     }
-    PointAnswer::Colour(pixel::dword_pixel(depth, memory, dword as usize, index as u32))
+    PointAnswer::Colour(pixel_code::dword_pixel(depth, memory, dword as usize, index as u32))
 }

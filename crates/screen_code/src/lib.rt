@@ -19,19 +19,19 @@ fn fields(b: &[u8]) -> Screen
     ensures { λ r. ⌜ r ≡ fieldsOf (now (b .entry)) ⌝ }
 {
     let window = Window {
-        base: record::u32_at(b, 12),
-        x: record::u16_at(b, 16),
-        y: record::u16_at(b, 18),
-        width: record::u16_at(b, 20),
-        height: record::u16_at(b, 22),
+        base: record_code::u32_at(b, 12),
+        x: record_code::u16_at(b, 16),
+        y: record_code::u16_at(b, 18),
+        width: record_code::u16_at(b, 20),
+        height: record_code::u16_at(b, 22),
     };
     Screen {
         depth: b[0],
         rotation: b[1],
         flag: b[2],
-        width: record::u16_at(b, 4),
-        height: record::u16_at(b, 6),
-        base: record::u32_at(b, 8),
+        width: record_code::u16_at(b, 4),
+        height: record_code::u16_at(b, 6),
+        base: record_code::u32_at(b, 8),
         window,
     }
 }
@@ -43,8 +43,8 @@ fn is_well_formed(b: &[u8]) -> bool
     if b.len() != 32 {
         return false;
     }
-    let rest = record::all_zero(&b[24..32]);
-    let window = record::all_zero(&b[12..24]);
+    let rest = record_code::all_zero(&b[24..32]);
+    let window = record_code::all_zero(&b[12..24]);
     (b[2] <= 1) & ((b[3] == 0) & (rest & ((b[2] != 0) | window)))
 }
 
@@ -79,8 +79,8 @@ pub fn view_height(rotation: u32, width: u32, height: u32) -> u32
 pub fn is_whole(depth: u32, n: u32) -> bool
     ensures { λ r. ⌜ r ≡ wholeDwords depth n ⌝ }
 {
-    let k = pixel::per_dword(depth);
-    record::remainder(n as u64, k as u64) == 0
+    let k = pixel_code::per_dword(depth);
+    record_code::remainder(n as u64, k as u64) == 0
 }
 
 // The bytes of n pixels.
@@ -123,7 +123,7 @@ pub fn window_image(s: Screen) -> Image
 fn image_end(depth: u8, i: Image) -> u64
     ensures { λ r. ⌜ r ≡ imageEnd depth i ⌝ }
 {
-    let lines = record::minus(i.height as u64, 1);
+    let lines = record_code::minus(i.height as u64, 1);
     i.base as u64 + lines * (i.line as u64) + line_bytes(depth, i.width) as u64
 }
 
@@ -161,7 +161,7 @@ fn first_fault(memory: u64, s: Screen) -> u32
     let main = main_image(s);
     let window = window_image(s);
     let windowed = s.flag == 1;
-    if !pixel::is_depth(s.depth as u32) {
+    if !pixel_code::is_depth(s.depth as u32) {
         return 2;
     }
     if 3 < s.rotation {
@@ -216,12 +216,12 @@ fn start_of(rotation: u8, depth: u8, i: Image) -> u64
         return base / 4;
     }
     if rotation == 1 {
-        return record::minus((base + width * bits / 8) / 4, 1);
+        return record_code::minus((base + width * bits / 8) / 4, 1);
     }
     if rotation == 2 {
-        return record::minus((base + width * height * bits / 8) / 4, 1);
+        return record_code::minus((base + width * height * bits / 8) / 4, 1);
     }
-    (base + record::minus(height, 1) * width * bits / 8) / 4
+    (base + record_code::minus(height, 1) * width * bits / 8) / 4
 }
 
 // Start and line offset of an image.
@@ -249,23 +249,29 @@ fn window_x(rotation: u8, k: u32, panel: u16, w: Window) -> u64
     let per = k as u64;
     let x = w.x as u64;
     let y = w.y as u64;
-    let right = record::minus(panel as u64, x);
-    let above = record::minus(panel as u64, y);
+    let right = record_code::minus(panel as u64, x);
+    let above = record_code::minus(panel as u64, y);
     if rotation == 0 {
-        let last = record::minus(x + w.width as u64, 1);
-        return edges_of(record::quotient(x, per), record::quotient(last, per));
+        let last = record_code::minus(x + w.width as u64, 1);
+        return edges_of(
+            record_code::quotient(x, per),
+            record_code::quotient(last, per),
+        );
     }
     if rotation == 1 {
-        return edges_of(y, record::minus(y + w.height as u64, 1));
+        return edges_of(y, record_code::minus(y + w.height as u64, 1));
     }
     if rotation == 2 {
-        let first = record::minus(right, w.width as u64);
-        let last = record::minus(right, 1);
-        return edges_of(record::quotient(first, per), record::quotient(last, per));
+        let first = record_code::minus(right, w.width as u64);
+        let last = record_code::minus(right, 1);
+        return edges_of(
+            record_code::quotient(first, per),
+            record_code::quotient(last, per),
+        );
     }
     edges_of(
-        record::minus(above, w.height as u64),
-        record::minus(above, 1),
+        record_code::minus(above, w.height as u64),
+        record_code::minus(above, 1),
     )
 }
 
@@ -276,24 +282,30 @@ fn window_y(rotation: u8, k: u32, panel: u16, w: Window) -> u64
     let per = k as u64;
     let x = w.x as u64;
     let y = w.y as u64;
-    let right = record::minus(panel as u64, x);
-    let below = record::minus(panel as u64, y);
+    let right = record_code::minus(panel as u64, x);
+    let below = record_code::minus(panel as u64, y);
     if rotation == 0 {
-        return edges_of(y, record::minus(y + w.height as u64, 1));
+        return edges_of(y, record_code::minus(y + w.height as u64, 1));
     }
     if rotation == 1 {
-        let first = record::minus(right, w.width as u64);
-        let end = record::quotient(right, per);
-        return edges_of(record::quotient(first, per), record::minus(end, 1));
+        let first = record_code::minus(right, w.width as u64);
+        let end = record_code::quotient(right, per);
+        return edges_of(
+            record_code::quotient(first, per),
+            record_code::minus(end, 1),
+        );
     }
     if rotation == 2 {
         return edges_of(
-            record::minus(below, w.height as u64),
-            record::minus(below, 1),
+            record_code::minus(below, w.height as u64),
+            record_code::minus(below, 1),
         );
     }
-    let last = record::minus(x + w.width as u64, 1);
-    edges_of(record::quotient(x, per), record::quotient(last, per))
+    let last = record_code::minus(x + w.width as u64, 1);
+    edges_of(
+        record_code::quotient(x, per),
+        record_code::quotient(last, per),
+    )
 }
 
 // The six screen register values of a screen.
@@ -313,7 +325,7 @@ pub fn screen_values(s: Screen) -> ScreenValues
             y: 0,
         };
     }
-    let k = pixel::per_dword(s.depth as u32);
+    let k = pixel_code::per_dword(s.depth as u32);
     let w = s.window;
     let window = origin_of(s.rotation, s.depth, window_image(s));
     let x = window_x(s.rotation, k, s.width, w);

@@ -80,7 +80,7 @@ pub fn put_lines(stream: &[u8], text: &mut [u8]) -> usize
     let n = least(stream.len() / 8, text.len() / 18);
     let mut i = 0;
     while i < n {
-        let r = record::record_at(stream, i);
+        let r = record_code::record_at(stream, i);
         put_line(text, 18 * i, r);
         i += 1;
     }
@@ -96,7 +96,7 @@ pub fn put_bytes(bytes: &[u8], text: &mut [u8]) -> usize
     let n = least(bytes.len(), text.len() / 3);
     let mut i = 0;
     while i < n {
-        let b = record::wide(bytes[i]);
+        let b = record_code::wide(bytes[i]);
         let pair = [letter(b / 16), letter(b), b' '];
         put(text, 3 * i, &pair);
         i += 1;
@@ -113,7 +113,7 @@ pub fn words_of(bytes: &[u8], words: &mut [u16]) -> usize
     let n = least(bytes.len() / 2, words.len());
     let mut i = 0;
     while i < n {
-        words[i] = record::u16_at(bytes, 2 * i);
+        words[i] = record_code::u16_at(bytes, 2 * i);
         i += 1;
     }
     n

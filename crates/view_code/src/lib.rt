@@ -18,11 +18,11 @@ fn walk_to(rotation: u32, k: u32, at: Origin, p: u32, q: u32) -> Place
     let per = k as u64;
     let column = p as u64 * offset;
     let line = q as u64 * offset;
-    let p_dword = record::quotient(p as u64, per);
-    let q_dword = record::quotient(q as u64, per);
-    let p_pixel = record::remainder(p as u64, per);
-    let q_pixel = record::remainder(q as u64, per);
-    let last = record::minus(per, 1);
+    let p_dword = record_code::quotient(p as u64, per);
+    let q_dword = record_code::quotient(q as u64, per);
+    let p_pixel = record_code::remainder(p as u64, per);
+    let q_pixel = record_code::remainder(q as u64, per);
+    let last = record_code::minus(per, 1);
     if rotation == 0 {
         return Place {
             up: start + line + p_dword,
@@ -34,14 +34,14 @@ fn walk_to(rotation: u32, k: u32, at: Origin, p: u32, q: u32) -> Place
         return Place {
             up: start + column,
             down: q_dword,
-            pixel: record::minus(last, q_pixel),
+            pixel: record_code::minus(last, q_pixel),
         };
     }
     if rotation == 2 {
         return Place {
             up: start,
             down: line + p_dword,
-            pixel: record::minus(last, p_pixel),
+            pixel: record_code::minus(last, p_pixel),
         };
     }
     Place {
@@ -63,9 +63,9 @@ fn in_window(rotation: u32, k: u32, x: u64, y: u64, p: u32, q: u32) -> bool
     ensures { λ r. ⌜ r ≡ inWindowBy rotation k x y p q ⌝ }
 {
     if (rotation == 1) | (rotation == 3) {
-        is_between(x, p as u64) & is_between(y, record::quotient(q as u64, k as u64))
+        is_between(x, p as u64) & is_between(y, record_code::quotient(q as u64, k as u64))
     } else {
-        is_between(x, record::quotient(p as u64, k as u64)) & is_between(y, q as u64)
+        is_between(x, record_code::quotient(p as u64, k as u64)) & is_between(y, q as u64)
     }
 }
 
@@ -96,13 +96,13 @@ pub fn place_of(depth: u32, rotation: u32, flag: u32, values: ScreenValues, p: u
     requires { ⌜ valuesFit values ≡ true ⌝ }
     ensures { λ r. ⌜ r ≡ placeOf depth rotation flag values p q ⌝ }
 {
-    let k = pixel::per_dword(depth);
+    let k = pixel_code::per_dword(depth);
     let main = values.main;
     let window = values.window;
     let taken = in_window(rotation, k, values.x, values.y, p, q);
     if (flag == 1) & taken {
-        let x = record::minus(p as u64, corner_p(rotation, k, values.x));
-        let y = record::minus(q as u64, corner_q(rotation, k, values.y));
+        let x = record_code::minus(p as u64, corner_p(rotation, k, values.x));
+        let y = record_code::minus(q as u64, corner_q(rotation, k, values.y));
         return walk_to(rotation, k, window, x as u32, y as u32);
     }
     walk_to(rotation, k, main, p, q)

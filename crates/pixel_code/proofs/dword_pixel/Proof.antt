@@ -2,11 +2,11 @@ use mathlib.Core.Path.{_≡_}
 use Prim.Native.Nat.{ℕ, _*_, _%_, _^_, _≤_}
 use native.Mathlib.Omega.{arith}
 use lib.Pow.{pow-pos, pow-mono}
 use Rattle.pixel.proofs.Depth.{byte-depth, depth-le, depth-pos, factor-le, in-dword, room}
 use Rattle.pixel.proofs.Pixels.{narrow-pixel, wide-pixel}
 use borrow.Author.Needs.{needs}
-use Rattle.pixel.proofs.dword_pixel.Statement.{statement}
-use Rattle.pixel.proofs.dword_pixel.Tie as tie
+use Rattle.pixel_code.proofs.dword_pixel.Statement.{statement}
+use Rattle.pixel_code.proofs.dword_pixel.Tie as tie
 
 -- a shift of 1 by at most 8 places keeps it whole
 shifted : (d : ℕ) → d ≤ 8 → 1 * 2 ^ d % 65536 ≡ 2 ^ d

@@ -2,10 +2,10 @@ use mathlib.Core.Path.{_≡_, ap, _∙_}
 use Prim.Native.Nat.{ℕ, _+_, _-_, _*_, _/_, _^_, _≤_}
 use native.Mathlib.Omega.{arith}
 use borrow.Author.Needs.{needs}
 use Rattle.pixel.specs.Raster.{raster}
 use Rattle.pixel.proofs.Raster.{raster-none, raster-more, raster-end, raster-under}
-use Rattle.pixel.proofs.combine.Statement.{statement}
-use Rattle.pixel.proofs.combine.Tie as tie
+use Rattle.pixel_code.proofs.combine.Statement.{statement}
+use Rattle.pixel_code.proofs.combine.Tie as tie
 
 abbrev Inv-loop : tie.InvT-loop
 Inv-loop bits code s d r₀ k₀ r k = (k ≤ bits) × (r ≡ raster (bits - k) code (s / 2 ^ k) (d / 2 ^ k))

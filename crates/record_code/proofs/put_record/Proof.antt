@@ -1,7 +1,7 @@
 use Rattle.record.proofs.Stores.{record-stored}
 use borrow.Author.Needs.{needs}
-use Rattle.record.proofs.put_record.Statement.{statement}
-use Rattle.record.proofs.put_record.Tie as tie
+use Rattle.record_code.proofs.put_record.Statement.{statement}
+use Rattle.record_code.proofs.put_record.Tie as tie
 
 cast-put-number : tie.Need-cast-put-number
 cast-put-number c = search needs

@@ -1,8 +1,8 @@
 use native.Mathlib.Omega.{arith}
 use Rattle.pixel.proofs.Pixels.{get-is-one, get-is-two}
 use borrow.Author.Needs.{needs}
-use Rattle.pixel.proofs.get_pixel.Statement.{statement}
-use Rattle.pixel.proofs.get_pixel.Tie as tie
+use Rattle.pixel_code.proofs.get_pixel.Statement.{statement}
+use Rattle.pixel_code.proofs.get_pixel.Tie as tie
 
 shared-slice-read-wide : tie.Need-shared-slice-read-wide
 shared-slice-read-wide c = search needs

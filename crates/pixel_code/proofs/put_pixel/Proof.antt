@@ -1,9 +1,9 @@
 use native.Mathlib.Omega.{arith}
 use lib.ListN.{length-set}
 use Rattle.pixel.proofs.Pixels.{put-is-one, put-is-two}
 use borrow.Author.Needs.{needs}
-use Rattle.pixel.proofs.put_pixel.Statement.{statement}
-use Rattle.pixel.proofs.put_pixel.Tie as tie
+use Rattle.pixel_code.proofs.put_pixel.Statement.{statement}
+use Rattle.pixel_code.proofs.put_pixel.Tie as tie
 
 cast-s : tie.Need-cast-s
 cast-s c = search needs

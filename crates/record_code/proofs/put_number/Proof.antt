@@ -1,10 +1,10 @@
 use native.Mathlib.Omega.{arith}
 use lib.ListN.{length-set}
 use Prim.Native.Nat.{_/_, _%_}
 use Rattle.record.proofs.Stores.{sets-four}
 use borrow.Author.Needs.{needs}
-use Rattle.record.proofs.put_number.Statement.{statement}
-use Rattle.record.proofs.put_number.Tie as tie
+use Rattle.record_code.proofs.put_number.Statement.{statement}
+use Rattle.record_code.proofs.put_number.Tie as tie
 
 cast-buffer : tie.Need-cast-buffer
 cast-buffer c = search needs

@@ -1,7 +1,7 @@
 use native.Mathlib.Nat.{div-zero}
 use borrow.Author.Needs.{needs}
-use Rattle.pixel.proofs.per_dword.Statement.{statement}
-use Rattle.pixel.proofs.per_dword.Tie as tie
+use Rattle.pixel_code.proofs.per_dword.Statement.{statement}
+use Rattle.pixel_code.proofs.per_dword.Tie as tie
 
 div-result : tie.Need-div-result
 div-result c = search needs

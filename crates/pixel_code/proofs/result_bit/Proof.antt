@@ -1,6 +1,6 @@
 use borrow.Author.Needs.{needs}
-use Rattle.pixel.proofs.result_bit.Statement.{statement}
-use Rattle.pixel.proofs.result_bit.Tie as tie
+use Rattle.pixel_code.proofs.result_bit.Statement.{statement}
+use Rattle.pixel_code.proofs.result_bit.Tie as tie
 
 bit-of-requires : tie.Need-bit-of-requires
 bit-of-requires c κs = search needs

@@ -2,8 +2,8 @@ use mathlib.Core.Path.{sym, ap, _∙_}
 use Prim.Native.Nat.{_%_}
 use native.Mathlib.Nat.{mod-zero}
 use borrow.Author.Needs.{needs}
-use Rattle.record.proofs.remainder.Statement.{statement}
-use Rattle.record.proofs.remainder.Tie as tie
+use Rattle.record_code.proofs.remainder.Statement.{statement}
+use Rattle.record_code.proofs.remainder.Tie as tie
 
 rem-result : tie.Need-rem-result
 rem-result c = search needs

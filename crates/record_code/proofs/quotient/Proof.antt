@@ -2,8 +2,8 @@ use mathlib.Core.Path.{sym, ap, _∙_}
 use Prim.Native.Nat.{_/_}
 use native.Mathlib.Nat.{div-zero}
 use borrow.Author.Needs.{needs}
-use Rattle.record.proofs.quotient.Statement.{statement}
-use Rattle.record.proofs.quotient.Tie as tie
+use Rattle.record_code.proofs.quotient.Statement.{statement}
+use Rattle.record_code.proofs.quotient.Tie as tie
 
 div-result : tie.Need-div-result
 div-result c = search needs

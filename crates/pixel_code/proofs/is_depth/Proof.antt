@@ -1,7 +1,7 @@
 use Rattle.pixel.specs.Depth.{isDepth}
 use borrow.Author.Needs.{needs}
-use Rattle.pixel.proofs.is_depth.Statement.{statement}
-use Rattle.pixel.proofs.is_depth.Tie as tie
+use Rattle.pixel_code.proofs.is_depth.Statement.{statement}
+use Rattle.pixel_code.proofs.is_depth.Tie as tie
 
 returns : tie.Need-returns
 unfolding isDepth

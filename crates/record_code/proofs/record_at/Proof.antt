@@ -1,7 +1,7 @@
 use Rattle.record.specs.Record.{recordAt}
 use borrow.Author.Needs.{needs}
-use Rattle.record.proofs.record_at.Statement.{statement}
-use Rattle.record.proofs.record_at.Tie as tie
+use Rattle.record_code.proofs.record_at.Statement.{statement}
+use Rattle.record_code.proofs.record_at.Tie as tie
 
 mul-u32-at : tie.Need-mul-u32-at
 mul-u32-at c = search needs

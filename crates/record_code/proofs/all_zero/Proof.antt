@@ -3,10 +3,10 @@ use mathlib.Core.Path.{_≡_, refl, sym, _∙_}
 use native.Mathlib.Omega.{arith}
 use borrow.Author.Needs.{needs}
 use lib.ListN.{length, drop}
 use Rattle.record.specs.Bytes.{allZero}
 use Rattle.record.proofs.Zero.{zero-step, zero-stop, zero-end}
-use Rattle.record.proofs.all_zero.Statement.{statement}
-use Rattle.record.proofs.all_zero.Tie as tie
+use Rattle.record_code.proofs.all_zero.Statement.{statement}
+use Rattle.record_code.proofs.all_zero.Tie as tie
 
 abbrev Inv-loop : tie.InvT-loop
 Inv-loop b i₀ i = (i ≤ length b) × (allZero b ≡ allZero (drop i b))
