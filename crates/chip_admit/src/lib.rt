@@ -1,0 +1,383 @@
+// The chip's registers, and admitting the records of a stream on registers and sizes alone.
+ghost use mathlib.Core.Path.{_≡_};
+ghost use mathlib.Core.Bool.{cond};
+ghost use Prim.Native.Nat.{_≤_};
+ghost use Rattle.record.specs.Record.{recordsOf};
+ghost use Rattle.blit.specs.Words.{lineWords};
+ghost use Rattle.chip.specs.Register.{listed, fits, screenAfter, blitAfter};
+ghost use Rattle.chip.specs.Start.{operation, rasterCode, bytesOf, sourceOf, destinationOf, lineOf, widthOf, heightOf, foregroundOf, startable, span, forward, backward, within};
+ghost use Rattle.chip.specs.Admit.{starts, refusal, dueAfter, dueOf, chipAfter};
+ghost use Rattle.chip.specs.Play.{newChip, run};
+ghost use Rattle.record.specs.Checks.{firstOf, row};
+ghost use mathlib.Core.List.{[], _∷_};
+use chip::Chip;
+use chip::Due;
+use chip::Registers;
+use chip::Run;
+use record::Record;
+use screen::Origin;
+use screen::ScreenValues;
+
+// One of two values, by a test.
+fn choose(t: bool, a: u32, b: u32) -> u32
+    ensures { λ r. ⌜ r ≡ cond t a b ⌝ }
+{
+    if t { a } else { b }
+}
+
+fn choose_wide(t: bool, a: u64, b: u64) -> u64
+    ensures { λ r. ⌜ r ≡ cond t a b ⌝ }
+{
+    if t { a } else { b }
+}
+
+fn choose_flag(t: bool, a: bool, b: bool) -> bool
+    ensures { λ r. ⌜ r ≡ cond t a b ⌝ }
+{
+    if t { a } else { b }
+}
+
+fn choose_due(t: bool, a: Due, b: Due) -> Due
+    ensures { λ r. ⌜ r ≡ cond t a b ⌝ }
+{
+    if t { a } else { b }
+}
+
+// Whether a number is a listed register or 10000h.
+fn is_listed(number: u32) -> bool
+    ensures { λ r. ⌜ r ≡ listed number ⌝ }
+{
+    match number {
+        0x40 | 0x44 | 0x50 | 0x54 | 0x58 | 0x5C => true,
+        0x8000 | 0x8008 | 0x800C | 0x8010 | 0x8014 | 0x8018 | 0x801C | 0x8020 | 0x8024 => true,
+        0x10000 => true,
+        _ => false,
+    }
+}
+
+// Whether a value lies in the field of a register.
+fn in_field(number: u32, value: u32) -> bool
+    ensures { λ r. ⌜ r ≡ fits number value ⌝ }
+{
+    match number {
+        0x40 | 0x50 | 0x8020 | 0x8024 | 0x10000 => value <= 0xFFFF,
+        0x44 | 0x54 | 0x8018 | 0x801C => value <= 0x3FF,
+        0x58 | 0x5C => (value % 65536 <= 0x3FF) & (value / 65536 <= 0x3FF),
+        0x8000 => (value % 65536 <= 1) & ((value / 65536 == 0) | (value / 65536 == 4)),
+        0x8008 => (value % 65536 <= 15) & (value / 65536 <= 15),
+        0x800C | 0x8010 => value <= 0x3FFFF,
+        0x8014 => value <= 0x7FF,
+        _ => false,
+    }
+}
+
+// The screen registers once a value is written.
+fn screen_after(s: ScreenValues, number: u32, value: u32) -> ScreenValues
+    ensures { λ r. ⌜ r ≡ screenAfter s number value ⌝ }
+{
+    let v = value as u64;
+    let main = s.main;
+    let window = s.window;
+    ScreenValues {
+        main: Origin {
+            start: choose_wide(number == 0x40, v, main.start),
+            offset: choose_wide(number == 0x44, v, main.offset),
+        },
+        window: Origin {
+            start: choose_wide(number == 0x50, v, window.start),
+            offset: choose_wide(number == 0x54, v, window.offset),
+        },
+        x: choose_wide(number == 0x58, v, s.x),
+        y: choose_wide(number == 0x5C, v, s.y),
+    }
+}
+
+// The blit registers once a value is written.
+pub fn blit_after(b: Registers, number: u32, value: u32) -> Registers
+    ensures { λ r. ⌜ r ≡ blitAfter b number value ⌝ }
+{
+    Registers {
+        control: choose(number == 0x8000, value, b.control),
+        command: choose(number == 0x8008, value, b.command),
+        source: choose(number == 0x800C, value, b.source),
+        destination: choose(number == 0x8010, value, b.destination),
+        offset: choose(number == 0x8014, value, b.offset),
+        width: choose(number == 0x8018, value, b.width),
+        height: choose(number == 0x801C, value, b.height),
+        background: choose(number == 0x8020, value, b.background),
+        foreground: choose(number == 0x8024, value, b.foreground),
+    }
+}
+
+// What the blit registers say, each read by its bits.
+pub fn operation_of(b: Registers) -> u32
+    ensures { λ r. ⌜ r ≡ operation b ⌝ }
+{
+    b.command % 16
+}
+
+pub fn raster_code(b: Registers) -> u8
+    ensures { λ r. ⌜ r ≡ rasterCode b ⌝ }
+{
+    (b.command / 65536 % 16) as u8
+}
+
+// Bytes of a pixel.
+pub fn bytes_of(b: Registers) -> u64
+    ensures { λ r. ⌜ r ≡ bytesOf b ⌝ }
+{
+    1 + (b.control / 262144 % 2) as u64
+}
+
+pub fn source_of(b: Registers) -> u32
+    ensures { λ r. ⌜ r ≡ sourceOf b ⌝ }
+{
+    b.source % 262144
+}
+
+pub fn destination_of(b: Registers) -> u32
+    ensures { λ r. ⌜ r ≡ destinationOf b ⌝ }
+{
+    b.destination % 262144
+}
+
+// Line length in bytes.
+pub fn line_of(b: Registers) -> u64
+    ensures { λ r. ⌜ r ≡ lineOf b ⌝ }
+{
+    2 * (b.offset % 2048) as u64
+}
+
+pub fn width_of(b: Registers) -> u64
+    ensures { λ r. ⌜ r ≡ widthOf b ⌝ }
+{
+    (b.width % 1024) as u64 + 1
+}
+
+pub fn height_of(b: Registers) -> u64
+    ensures { λ r. ⌜ r ≡ heightOf b ⌝ }
+{
+    (b.height % 1024) as u64 + 1
+}
+
+pub fn foreground_of(b: Registers) -> u16
+    ensures { λ r. ⌜ r ≡ foregroundOf b ⌝ }
+{
+    (b.foreground % 65536) as u16
+}
+
+// Data words of a line.
+fn words_of(b: Registers) -> u64
+    ensures { λ r. ⌜ (r ≡ lineWords (bytesOf b) (widthOf b)) × (r ≤ 1024) ⌝ }
+{
+    (width_of(b) * bytes_of(b) + 1) / 2
+}
+
+// From the first byte of the first pixel to that of the last.
+fn span_of(b: Registers) -> u64
+    ensures { λ r. ⌜ (r ≡ span b) × (r ≤ 4190208) ⌝ }
+{
+    let lines = (b.height % 1024) as u64 * line_of(b);
+    let pixels = (b.width % 1024) as u64 * bytes_of(b);
+    lines + pixels
+}
+
+// Refusal 21: whether the model has an operation for the start.
+fn is_startable(b: Registers) -> bool
+    ensures { λ r. ⌜ r ≡ startable b ⌝ }
+{
+    let operation = operation_of(b);
+    let bytes = bytes_of(b);
+    let source = source_of(b) as u64;
+    let destination = destination_of(b) as u64;
+    let moves = (operation == 2) | (operation == 3);
+    let known = moves | ((operation == 0) | (operation == 0xC));
+    let bare = (operation != 0) | (source == 0);
+    known & ((destination % bytes == 0) & ((!moves | (source % bytes == 0)) & bare))
+}
+
+// Whether all bytes from an address on lie in the memory.
+fn fits_forward(memory: u64, b: Registers, address: u32) -> bool
+    ensures { λ r. ⌜ r ≡ forward memory b address ⌝ }
+{
+    address as u64 + span_of(b) + bytes_of(b) <= memory
+}
+
+// Whether all bytes back from an address lie in the memory.
+fn fits_backward(memory: u64, b: Registers, address: u32) -> bool
+    ensures { λ r. ⌜ r ≡ backward memory b address ⌝ }
+{
+    let low = span_of(b) <= address as u64;
+    let high = address as u64 + bytes_of(b) <= memory;
+    low & high
+}
+
+// Refusal 22: whether every byte that the blit touches lies in the memory.
+fn is_within(memory: u64, b: Registers) -> bool
+    ensures { λ r. ⌜ r ≡ within memory b ⌝ }
+{
+    let operation = operation_of(b);
+    let source = source_of(b);
+    let destination = destination_of(b);
+    let down = fits_backward(memory, b, destination) & fits_backward(memory, b, source);
+    let up = fits_forward(memory, b, destination)
+        & ((operation != 2) | fits_forward(memory, b, source));
+    choose_flag(operation == 3, down, up)
+}
+
+// 8000h with bit 0 set.
+pub fn starts_blit(r: Record) -> bool
+    ensures { λ x. ⌜ x ≡ starts r ⌝ }
+{
+    (r.number == 0x8000) & (r.value % 2 == 1)
+}
+
+// The number of the first of four checks that fails; 0 where none does.
+fn first_fault(listed: bool, value: bool, reach: bool, order: bool) -> u32
+    ensures { λ r. ⌜ r ≡ firstOf (row 20 listed ∷ row 21 value ∷ row 22 reach ∷ row 23 order ∷ []) ⌝ }
+{
+    if listed {
+        return 20;
+    }
+    if value {
+        return 21;
+    }
+    if reach {
+        return 22;
+    }
+    if order {
+        return 23;
+    }
+    0
+}
+
+// 0, or why a record is refused, in a memory of so many bytes.
+pub fn refusal_of(memory: u64, c: Chip, r: Record) -> u32
+    ensures { λ x. ⌜ x ≡ refusal memory c r ⌝ }
+{
+    let b = c.blit;
+    let d = c.due;
+    let next = blit_after(b, r.number, r.value);
+    let start = starts_blit(r);
+    let listed = !is_listed(r.number);
+    let value = !in_field(r.number, r.value) | (start & !is_startable(next));
+    let reach = start & !is_within(memory, next);
+    let order = choose_flag(r.number == 0x10000, !d.any, d.any);
+    first_fault(listed, value, reach, order)
+}
+
+// The next word that is due once one has come.
+fn due_after(b: Registers, d: Due) -> Due
+    ensures { λ r. ⌜ r ≡ dueAfter b d ⌝ }
+{
+    let words = words_of(b);
+    let height = height_of(b);
+    if d.word as u64 + 1 < words {
+        return Due {
+            any: true,
+            line: d.line,
+            word: d.word + 1,
+        };
+    }
+    if d.line as u64 + 1 < height {
+        return Due {
+            any: true,
+            line: d.line + 1,
+            word: 0,
+        };
+    }
+    Due {
+        any: false,
+        line: 0,
+        word: 0,
+    }
+}
+
+// What is due after a register write: a started write waits for its first word.
+fn due_of(b: Registers, r: Record) -> Due
+    ensures { λ x. ⌜ x ≡ dueOf b r ⌝ }
+{
+    let any = starts_blit(r) & (operation_of(b) == 0);
+    Due {
+        any,
+        line: 0,
+        word: 0,
+    }
+}
+
+// The chip after a record that is not refused.
+pub fn chip_after(c: Chip, r: Record) -> Chip
+    ensures { λ x. ⌜ x ≡ chipAfter c r ⌝ }
+{
+    let s = c.screen;
+    let b = c.blit;
+    let d = c.due;
+    let screen = screen_after(s, r.number, r.value);
+    let blit = blit_after(b, r.number, r.value);
+    let due = choose_due(r.number == 0x10000, due_after(b, d), due_of(blit, r));
+    Chip { screen, blit, due }
+}
+
+// All registers are 0, and no data is due.
+pub fn new_chip() -> Chip
+    ensures { λ r. ⌜ r ≡ newChip ⌝ }
+{
+    let main = Origin {
+        start: 0,
+        offset: 0,
+    };
+    let window = Origin {
+        start: 0,
+        offset: 0,
+    };
+    let screen = ScreenValues {
+        main,
+        window,
+        x: 0,
+        y: 0,
+    };
+    let blit = Registers {
+        control: 0,
+        command: 0,
+        source: 0,
+        destination: 0,
+        offset: 0,
+        width: 0,
+        height: 0,
+        background: 0,
+        foreground: 0,
+    };
+    let due = Due {
+        any: false,
+        line: 0,
+        word: 0,
+    };
+    Chip { screen, blit, due }
+}
+
+// The first pass: admits the records of a stream in order, on registers and sizes alone.
+pub fn check(memory: u64, stream: &[u8]) -> Run
+    ensures { λ r. ⌜ r ≡ run memory newChip 0 (recordsOf (now (stream .entry))) ⌝ }
+{
+    let count = stream.len() / 8;
+    let mut chip = new_chip();
+    let mut i = 0;
+    while i < count {
+        let r = record_code::record_at(stream, i);
+        let number = refusal_of(memory, chip, r);
+        if number != 0 {
+            return Run {
+                number,
+                place: i,
+                chip,
+            };
+        }
+        chip = chip_after(chip, r);
+        i += 1;
+    }
+    Run {
+        number: 0,
+        place: 0,
+        chip,
+    }
+}
