@@ -1,7 +1,7 @@
 use borrow.Author.Needs.{needs}
 use Rattle.compiler.proofs.SecondPass.{command-stored}
-use Rattle.compiler_code.proofs.put_command.Statement.{statement}
-use Rattle.compiler_code.proofs.put_command.Tie as tie
+use Rattle.compiler_pass.proofs.put_command.Statement.{statement}
+use Rattle.compiler_pass.proofs.put_command.Tie as tie
 
 blit-values-requires : tie.Need-blit-values-requires
 blit-values-requires c κs = search needs

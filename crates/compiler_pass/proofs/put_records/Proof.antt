@@ -4,8 +4,8 @@ use lib.ListN.{length}
 use borrow.Author.Needs.{needs}
 use Rattle.compiler.specs.Stream.{recordsWith}
 use Rattle.compiler.proofs.Puts.{Putting, putting-start, putting-turn, putting-end, with-at, length-with}
-use Rattle.compiler_code.proofs.put_records.Statement.{statement}
-use Rattle.compiler_code.proofs.put_records.Tie as tie
+use Rattle.compiler_pass.proofs.put_records.Statement.{statement}
+use Rattle.compiler_pass.proofs.put_records.Tie as tie
 
 abbrev Inv-loop : tie.InvT-loop
 Inv-loop buffer₀ at numbers values i₀ to₀ buffer i to = Putting (recordsWith numbers values) at buffer₀ buffer i to

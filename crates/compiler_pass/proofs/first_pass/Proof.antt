@@ -6,8 +6,8 @@ use lib.ListN.{take, drop}
 use borrow.Author.Needs.{needs}
 use Rattle.command.specs.Command.{commandAnswer}
 use Rattle.compiler.proofs.FirstPass.{Going, partAt, going-start, going-turn, words-fit, pass-refused, pass-done}
-use Rattle.compiler_code.proofs.first_pass.Statement.{statement}
-use Rattle.compiler_code.proofs.first_pass.Tie as tie
+use Rattle.compiler_pass.proofs.first_pass.Statement.{statement}
+use Rattle.compiler_pass.proofs.first_pass.Tie as tie
 
 abbrev Inv-loop : tie.InvT-loop
 Inv-loop s list left count i₀ used₀ i used = Going s list left count i used

@@ -7,8 +7,8 @@ use borrow.Author.Needs.{needs}
 use Rattle.command.specs.Command.{commandOf, wordsTaken}
 use Rattle.compiler.proofs.FirstPass.{partAt}
 use Rattle.compiler.proofs.SecondPass.{Writing, writing-start, writing-step, writing-end, words-there, room-there, part-length}
-use Rattle.compiler_code.proofs.second_pass.Statement.{statement}
-use Rattle.compiler_code.proofs.second_pass.Tie as tie
+use Rattle.compiler_pass.proofs.second_pass.Statement.{statement}
+use Rattle.compiler_pass.proofs.second_pass.Tie as tie
 
 abbrev Inv-loop : tie.InvT-loop
 Inv-loop s list words buffer₀ commands i₀ used₀ at₀ buffer i used at = Writing s list words buffer₀ buffer commands i used at

@@ -1,7 +1,7 @@
 use Rattle.record.proofs.Checks.{row-fails, row-passes, rows-end}
 use Rattle.compiler.specs.Compile.{listRows}
-use Rattle.compiler_code.proofs.list_fault.Statement.{statement}
-use Rattle.compiler_code.proofs.list_fault.Tie as tie
+use Rattle.compiler_pass.proofs.list_fault.Statement.{statement}
+use Rattle.compiler_pass.proofs.list_fault.Tie as tie
 
 returns : tie.Need-returns
 unfolding listRows

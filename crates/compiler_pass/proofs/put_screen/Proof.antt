@@ -4,8 +4,8 @@ use borrow.Author.Needs.{needs}
 use Rattle.record.specs.Record.{streamBytes}
 use Rattle.screen.specs.declared.ScreenValues.{ScreenValues}
 use Rattle.compiler.specs.Stream.{recordsWith, screenRegisters, sixValues, screenRecords}
-use Rattle.compiler_code.proofs.put_screen.Statement.{statement}
-use Rattle.compiler_code.proofs.put_screen.Tie as tie
+use Rattle.compiler_pass.proofs.put_screen.Statement.{statement}
+use Rattle.compiler_pass.proofs.put_screen.Tie as tie
 
 screen-values-requires : tie.Need-screen-values-requires
 screen-values-requires c κs = search needs

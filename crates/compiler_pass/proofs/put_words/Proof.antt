@@ -5,8 +5,8 @@ use borrow.Author.Needs.{needs}
 use Rattle.compiler.specs.Stream.{dataRecords}
 use Rattle.compiler.proofs.Lengths.{length-data}
 use Rattle.compiler.proofs.Puts.{Putting, putting-start, putting-turn, putting-end, data-at}
-use Rattle.compiler_code.proofs.put_words.Statement.{statement}
-use Rattle.compiler_code.proofs.put_words.Tie as tie
+use Rattle.compiler_pass.proofs.put_words.Statement.{statement}
+use Rattle.compiler_pass.proofs.put_words.Tie as tie
 
 abbrev Inv-loop : tie.InvT-loop
 Inv-loop buffer₀ at words i₀ to₀ buffer i to = Putting (dataRecords words) at buffer₀ buffer i to
