@@ -111,7 +111,7 @@ pub fn put_screen(s: Screen, buffer: &mut [u8])
     requires { ⌜ 48 ≤ length (now buffer) ⌝ }
     ensures { λ _. ⌜ now (buffer .exit) ≡ sets (now (buffer .entry)) 0 (streamBytes (screenRecords s)) ⌝ }
 {
-    let v = screen_code::screen_values(s);
+    let v = screen_values::screen_values(s);
     let main = v.main;
     let window = v.window;
     let values = [

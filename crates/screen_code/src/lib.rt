@@ -1,16 +1,12 @@
-// The screen record, and the six screen register values.
+// The screen record: its images, and the checks on it.
 ghost use mathlib.Core.Path.{_≡_};
-ghost use Prim.Native.Nat.{_<_};
 ghost use lib.ListN.{length};
 ghost use Rattle.record.specs.Checks.{firstOf};
-ghost use Rattle.screen.specs.Image.{lineBytes, imageEnd, startOf};
+ghost use Rattle.screen.specs.Image.{lineBytes, imageEnd};
 ghost use Rattle.screen.specs.Screen.{fieldsOf, wellFormed, panelOk, viewWidth, viewHeight, wholeDwords, mainImage, windowImage, imageOk, windowOk, windowWhole, fieldRows, screenRows, screenOf, numberOf, memorySize};
-ghost use Rattle.screen.specs.Values.{windowX, windowY, originOf, valuesOf, edges};
 use screen::Image;
-use screen::Origin;
 use screen::Screen;
 use screen::ScreenAnswer;
-use screen::ScreenValues;
 use screen::Window;
 
 // The record's fields.
@@ -202,133 +198,4 @@ pub fn read_screen(bytes: &[u8]) -> ScreenAnswer
         return ScreenAnswer::Accepted(s);
     }
     ScreenAnswer::Refused(n)
-}
-
-// The start register of an image.
-fn start_of(rotation: u8, depth: u8, i: Image) -> u64
-    ensures { λ r. ⌜ r ≡ startOf rotation depth i ⌝ }
-{
-    let base = i.base as u64;
-    let width = i.width as u64;
-    let height = i.height as u64;
-    let bits = depth as u64;
-    if rotation == 0 {
-        return base / 4;
-    }
-    if rotation == 1 {
-        return record_code::minus((base + width * bits / 8) / 4, 1);
-    }
-    if rotation == 2 {
-        return record_code::minus((base + width * height * bits / 8) / 4, 1);
-    }
-    (base + record_code::minus(height, 1) * width * bits / 8) / 4
-}
-
-// Start and line offset of an image.
-fn origin_of(rotation: u8, depth: u8, i: Image) -> Origin
-    ensures { λ r. ⌜ r ≡ originOf rotation depth i ⌝ }
-{
-    Origin {
-        start: start_of(rotation, depth, i),
-        offset: i.line as u64 / 4,
-    }
-}
-
-// A position register.
-fn edges_of(start: u64, end: u64) -> u64
-    requires { ⌜ (start < 4294967296) × (end < 4294967296) ⌝ }
-    ensures { λ r. ⌜ r ≡ edges start end ⌝ }
-{
-    start + 65536 * end
-}
-
-// The X position register of a window on a panel of a width, k pixels to a dword.
-fn window_x(rotation: u8, k: u32, panel: u16, w: Window) -> u64
-    ensures { λ r. ⌜ r ≡ windowX rotation k panel w ⌝ }
-{
-    let per = k as u64;
-    let x = w.x as u64;
-    let y = w.y as u64;
-    let right = record_code::minus(panel as u64, x);
-    let above = record_code::minus(panel as u64, y);
-    if rotation == 0 {
-        let last = record_code::minus(x + w.width as u64, 1);
-        return edges_of(
-            record_code::quotient(x, per),
-            record_code::quotient(last, per),
-        );
-    }
-    if rotation == 1 {
-        return edges_of(y, record_code::minus(y + w.height as u64, 1));
-    }
-    if rotation == 2 {
-        let first = record_code::minus(right, w.width as u64);
-        let last = record_code::minus(right, 1);
-        return edges_of(
-            record_code::quotient(first, per),
-            record_code::quotient(last, per),
-        );
-    }
-    edges_of(
-        record_code::minus(above, w.height as u64),
-        record_code::minus(above, 1),
-    )
-}
-
-// The Y position register of a window on a panel of a height, k pixels to a dword.
-fn window_y(rotation: u8, k: u32, panel: u16, w: Window) -> u64
-    ensures { λ r. ⌜ r ≡ windowY rotation k panel w ⌝ }
-{
-    let per = k as u64;
-    let x = w.x as u64;
-    let y = w.y as u64;
-    let right = record_code::minus(panel as u64, x);
-    let below = record_code::minus(panel as u64, y);
-    if rotation == 0 {
-        return edges_of(y, record_code::minus(y + w.height as u64, 1));
-    }
-    if rotation == 1 {
-        let first = record_code::minus(right, w.width as u64);
-        let end = record_code::quotient(right, per);
-        return edges_of(
-            record_code::quotient(first, per),
-            record_code::minus(end, 1),
-        );
-    }
-    if rotation == 2 {
-        return edges_of(
-            record_code::minus(below, w.height as u64),
-            record_code::minus(below, 1),
-        );
-    }
-    let last = record_code::minus(x + w.width as u64, 1);
-    edges_of(
-        record_code::quotient(x, per),
-        record_code::quotient(last, per),
-    )
-}
-
-// The six screen register values of a screen.
-pub fn screen_values(s: Screen) -> ScreenValues
-    ensures { λ r. ⌜ r ≡ valuesOf s ⌝ }
-{
-    let main = origin_of(s.rotation, s.depth, main_image(s));
-    if s.flag == 0 {
-        let window = Origin {
-            start: 0,
-            offset: 0,
-        };
-        return ScreenValues {
-            main,
-            window,
-            x: 0,
-            y: 0,
-        };
-    }
-    let k = pixel_code::per_dword(s.depth as u32);
-    let w = s.window;
-    let window = origin_of(s.rotation, s.depth, window_image(s));
-    let x = window_x(s.rotation, k, s.width, w);
-    let y = window_y(s.rotation, k, s.height, w);
-    ScreenValues { main, window, x, y }
 }

@@ -60,7 +60,7 @@ pub fn shown(screen: &[u8], p: u32, q: u32, memory: &[u8]) -> PointAnswer
                 width: s.width as u32,
                 height: s.height as u32,
             };
-            let values = screen_code::screen_values(s);
+            let values = screen_values::screen_values(s);
             reader_code::read_point(d, values, p, q, memory)
         }
     }

@@ -21,7 +21,7 @@ same-length : tie.Need-same-length
 same-length c = search needs
 
 returns : tie.Need-returns
-returns c = cc
+returns c = simp (c .before .before .put-pixel .ensures, c .before .before .before .before .combine .ensures, c .before .before .before .before .before .get-pixel .ensures)
 
 pub combine-pixel-spec : {M : Type 1} → statement M
 combine-pixel-spec =

@@ -35,7 +35,7 @@ u16-at-requires-7 c κs = search needs
 
 returns : tie.Need-returns
 unfolding commandOf
-returns c = cc
+returns c = simp (c .u16-at7 .ensures, c .before .u16-at6 .ensures, c .before .before .u16-at5 .ensures, c .before .before .before .u16-at4 .ensures, c .before .before .before .before .u16-at3 .ensures, c .before .before .before .before .before .u16-at2 .ensures, c .before .before .before .before .before .before .u16-at .ensures)
 
 pub command-of-spec : {M : Type 1} → statement M
 command-of-spec =

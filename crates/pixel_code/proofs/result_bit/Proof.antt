@@ -21,7 +21,7 @@ bit-of-requires-3 : tie.Need-bit-of-requires-3
 bit-of-requires-3 c κs = search needs
 
 returns : tie.Need-returns
-returns c = cc
+returns c = simp (c .bit-of3 .ensures, c .before .bit-of2 .ensures, c .before .before .bit-of .ensures)
 
 pub result-bit-spec : {M : Type 1} → statement M
 result-bit-spec =

@@ -38,7 +38,7 @@ u32-at-requires-2 c κs = search needs
 
 returns : tie.Need-returns
 unfolding fieldsOf
-returns c = cc
+returns c = simp (c .u32-at2 .ensures, c .before .u16-at6 .ensures, c .before .before .u16-at5 .ensures, c .before .before .before .before .before .before .u16-at4 .ensures, c .before .before .before .before .before .before .before .u16-at3 .ensures, c .before .before .before .before .before .before .before .before .u16-at2 .ensures, c .before .before .before .before .before .before .before .before .before .u16-at .ensures, c .before .before .before .before .before .before .before .before .before .before .u32-at .ensures)
 
 pub fields-spec : {M : Type 1} → statement M
 fields-spec =

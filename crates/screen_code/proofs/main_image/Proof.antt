@@ -45,7 +45,7 @@ line-bytes-requires c κs = search needs
 
 returns : tie.Need-returns
 unfolding mainImage
-returns c = cc
+returns c = simp (c .line-bytes .ensures, c .before .view-height .ensures, c .before .before .before .before .before .view-width .ensures)
 
 pub main-image-spec : {M : Type 1} → statement M
 main-image-spec =

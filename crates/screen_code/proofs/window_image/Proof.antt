@@ -8,7 +8,7 @@ line-bytes-requires c κs = search needs
 
 returns : tie.Need-returns
 unfolding windowImage
-returns c = cc
+returns c = simp (c .line-bytes .ensures)
 
 pub window-image-spec : {M : Type 1} → statement M
 window-image-spec = tie.close (tie.spec line-bytes-requires returns)

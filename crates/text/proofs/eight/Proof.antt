@@ -27,7 +27,7 @@ letter-requires-8 : tie.Need-letter-requires-8
 letter-requires-8 c κs = search needs
 
 returns : tie.Need-returns
-returns c = cc
+returns c = simp (c .letter8 .ensures, c .before .letter7 .ensures, c .before .before .letter6 .ensures, c .before .before .before .letter5 .ensures, c .before .before .before .before .letter4 .ensures, c .before .before .before .before .before .letter3 .ensures, c .before .before .before .before .before .before .letter2 .ensures, c .before .before .before .before .before .before .before .letter .ensures)
 
 pub eight-spec : {M : Type 1} → statement M
 eight-spec =

@@ -1,7 +1,7 @@
 use borrow.Author.Needs.{needs}
 use Rattle.screen.specs.Values.{originOf}
-use Rattle.screen_code.proofs.origin_of.Statement.{statement}
-use Rattle.screen_code.proofs.origin_of.Tie as tie
+use Rattle.screen_values.proofs.origin_of.Statement.{statement}
+use Rattle.screen_values.proofs.origin_of.Tie as tie
 
 start-of-requires : tie.Need-start-of-requires
 start-of-requires c κs = search needs

@@ -4,8 +4,8 @@ use native.Mathlib.Omega.{arith}
 use borrow.Author.Tests.{eq-eqb, ne-eqb}
 use borrow.Author.Needs.{needs}
 use Rattle.screen.specs.Image.{startOf}
-use Rattle.screen_code.proofs.start_of.Statement.{statement}
-use Rattle.screen_code.proofs.start_of.Tie as tie
+use Rattle.screen_values.proofs.start_of.Statement.{statement}
+use Rattle.screen_values.proofs.start_of.Tie as tie
 
 -- the bits of one line, of all lines, and of all lines but the last
 row : (c : tie.After-struct-known3) → c .before .before .before .args .i .width * c .before .before .before .args .depth ≤ 65535 * 255

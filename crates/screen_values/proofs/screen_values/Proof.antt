@@ -1,8 +1,8 @@
 use borrow.Author.Tests.{eq-eqb, ne-eqb}
 use borrow.Author.Needs.{needs}
 use Rattle.screen.specs.Values.{valuesOf}
-use Rattle.screen_code.proofs.screen_values.Statement.{statement}
-use Rattle.screen_code.proofs.screen_values.Tie as tie
+use Rattle.screen_values.proofs.screen_values.Statement.{statement}
+use Rattle.screen_values.proofs.screen_values.Tie as tie
 
 main-image-requires : tie.Need-main-image-requires
 main-image-requires c κs = search needs
