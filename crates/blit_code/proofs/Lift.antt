@@ -14,10 +14,21 @@ use Rattle.pixel.specs.Pixel.{getPixel, putPixel}
 use Rattle.pixel.specs.Raster.{raster}
 use Rattle.pixel.proofs.Pixels.{get-ext, get-part, put-part}
 use Rattle.blit.specs.Blit.{pixels}
-use Rattle.blit_code.specs.Worker.{rank, spot, lagged, workLine, straightLine, lagOf, readLine}
+use Rattle.blit_line.specs.Line.{rank, spot, lagged, workLine, straightLine, readLine}
+use Rattle.blit_code.specs.Lines.{codeOf, lagOf}
 use Rattle.blit.proofs.Runs.{below-or-not, step-fits, length-pixels, keep-pixels, pixels-ext}
-use Rattle.blit_code.proofs.Worker.{rank-lt, spot-fits}
-use Rattle.blit_code.proofs.Straight.{store-is-code, straight-work}
+use Rattle.blit_line.proofs.Worker.{rank-lt, spot-fits}
+use Rattle.blit_line.proofs.Read.{read-at}
+use Rattle.blit_code.specs.Job.{mixOf}
+use Rattle.blit_code.specs.declared.Mix.{Mix}
+use Rattle.blit_code.specs.declared.Mix.the-variants.{Store, Raster}
+use Rattle.blit_line.proofs.Straight.{store-is-code, straight-work}
+
+-- what a mix does, a raster code does
+pub mix-is-code : (mix : Mix) (bytes : ℕ) (place : ℕ → ℕ) (fetch : List ℕ → ℕ → ℕ) (n : ℕ) (m : List ℕ)
+    → pixels bytes (mixOf mix bytes) place fetch n m ≡ pixels bytes (raster (8 * bytes) (codeOf mix)) place fetch n m
+mix-is-code Store bytes place fetch n m = store-is-code bytes place fetch n m
+mix-is-code (Raster c) bytes place fetch n m = refl
 
 -- ---- the lent line put back
 
@@ -167,40 +178,6 @@ lag-fits true bytes width s d h es ed =
     (λ p. rw (lt-ltb d s p) (down-own bytes width s d _ (exact bytes d s h ed es (omega arith))))
     (λ p. rw (le-ltb d s p) (down-none bytes width s d p))
     (below-or-not d s)
-
--- the source line as it was read
-pub length-read : (bytes : ℕ) (memory : List ℕ) (a n : ℕ) (old : List ℕ) → length (readLine bytes memory a n old) ≡ length old
-unfolding readLine
-length-read bytes memory a zero old = refl
-length-read bytes memory a (suc n) old =
-    length-set (readLine bytes memory a n old) n (getPixel bytes memory (a + n * bytes)) ∙ length-read bytes memory a n old
-
-pub read-none : (bytes : ℕ) (memory : List ℕ) (a : ℕ) (old : List ℕ) → old ≡ readLine bytes memory a 0 old
-unfolding readLine
-read-none bytes memory a old = refl
-
-pub read-more : (bytes : ℕ) (memory : List ℕ) (a n : ℕ) (old m : List ℕ) (v : ℕ) → m ≡ readLine bytes memory a n old
-    → v ≡ getPixel bytes memory (a + n * bytes) → set m n v ≡ readLine bytes memory a (suc n) old
-unfolding readLine
-read-more bytes memory a n old m v e h = ap₂ (λ (x : List ℕ) (y : ℕ). set x n y) e h
-
-pub read-end : (bytes : ℕ) (memory : List ℕ) (a n width : ℕ) (old m : List ℕ) → m ≡ readLine bytes memory a n old → n ≡ width
-    → m ≡ readLine bytes memory a width old
-read-end bytes memory a n width old m e h = e ∙ ap (λ (k : ℕ). readLine bytes memory a k old) h
-
-pub read-at : (bytes : ℕ) (memory : List ℕ) (a n : ℕ) (old : List ℕ) (k : ℕ) → k < n → n ≤ length old
-    → getD (readLine bytes memory a n old) k 0 ≡ getPixel bytes memory (a + k * bytes)
-unfolding readLine
-read-at bytes memory a zero old k h room = absurd (omega arith)
-read-at bytes memory a (suc n) old k h room =
-    ⊎-elim
-    (λ p.
-    getD-set-other (readLine bytes memory a n old) n k (getPixel bytes memory (a + n * bytes)) 0 (omega arith)
-    ∙ read-at bytes memory a n old k p (omega arith))
-    (λ p.
-    let e : k ≡ n = omega arith in
-    rw e (getD-set-same (readLine bytes memory a n old) n _ 0 (omega (arith, length-read bytes memory a n old))))
-    (below-or-not k n)
 
 pub sourced-move : (down : Bool) (bytes width s d code : ℕ) (old memory : List ℕ) → 0 < bytes → s % bytes ≡ 0 → d % bytes ≡ 0
     → width ≤ length old

@@ -9,10 +9,10 @@ use Rattle.pixel.specs.Raster.{raster}
 use Rattle.blit.specs.Blit.{pixels}
 use Rattle.blit_code.specs.Job.{mixOf}
 use Rattle.blit.specs.Words.{perWord, wordPixel}
-use Rattle.blit_code.specs.Worker.{codeOf, rank, workLine}
+use Rattle.blit_line.specs.Line.{rank, workLine}
+use Rattle.blit_code.specs.Lines.{codeOf}
 use Rattle.blit_code.specs.declared.Mix.{Mix}
-use Rattle.blit_code.proofs.Straight.{mix-is-code}
-use Rattle.blit_code.proofs.Lift.{put-back, sourced-given}
+use Rattle.blit_code.proofs.Lift.{mix-is-code, put-back, sourced-given}
 
 -- a word has at most two pixels
 pub few-pixels : (bytes count : ℕ) → 0 < bytes → bytes ≤ 2 → count ≤ perWord bytes → count ≤ 2

@@ -1,2 +1,2 @@
 pub mod Job
-pub mod Worker
+pub mod Lines

@@ -1,16 +1,13 @@
-// The blit engine: pixels one by one, line by line, in the direction named.
+// The blit engine: fills, moves and host words over a lent memory, line by line.
 ghost use mathlib.Core.Path.{_≡_};
-ghost use mathlib.Core.Bool.{cond};
 ghost use mathlib.Core.List.{[], _∷_};
-ghost use Prim.Native.Nat.{_+_, _-_, _*_, _≤_, _<_};
-ghost use lib.Dec.{ltb};
-ghost use lib.ListN.{length, getD, replicate};
-ghost use Rattle.pixel.specs.Pixel.{getPixel, putPixel};
-ghost use Rattle.pixel.specs.Raster.{raster};
+ghost use Prim.Native.Nat.{_+_, _*_, _≤_, _<_};
+ghost use lib.ListN.{length, replicate};
 ghost use Rattle.blit.specs.Blit.{pixels, chipLine, chipBlit, towards};
 ghost use Rattle.blit.specs.Words.{perWord, wordPixel};
 ghost use Rattle.blit_code.specs.Job.{mixOf, blitOf, JobOk};
-ghost use Rattle.blit_code.specs.Worker.{codeOf, rank, spot, workLine, straightLine, lagOf, lowEnd, AboveZero, readLine};
+ghost use Rattle.blit_line.specs.Line.{readLine};
+ghost use Rattle.blit_code.specs.Lines.{codeOf, lagOf, lowEnd, AboveZero};
 ghost use Rattle.blit_code.specs.declared.From.the-variants.{Colour, Memory};
 
 // What a source pixel and a destination pixel make: the source, or the two under a raster code.
@@ -45,171 +42,6 @@ fn code_of(mix: Mix) -> u8
     match mix {
         Mix::Store => 0xC,
         Mix::Raster(code) => code,
-    }
-}
-
-// Pixels of one colour, side by side.
-fn fill_pixels(line: &mut [u8], bytes: usize, width: usize, colour: u16)
-    requires { ⌜ (0 < bytes) × (bytes ≤ 2) × (width ≤ 1024) × (length (now line) ≡ width * bytes) ⌝ }
-    ensures { λ _. ⌜ now (line .exit) ≡ straightLine bytes (λ s d. s) (λ i. colour) width (now (line .entry)) ⌝ }
-{
-    let mut i = 0;
-    while i < width {
-        pixel_code::put_pixel(line, bytes, i * bytes, colour);
-        i += 1;
-    }
-}
-
-// Pixels of a source line, stored side by side.
-fn copy_pixels(line: &mut [u8], bytes: usize, width: usize, source: &[u16])
-    requires { ⌜ (0 < bytes) × (bytes ≤ 2) × (width ≤ 1024) × (length (now line) ≡ width * bytes) × (width ≤ length (now source)) ⌝ }
-    ensures { λ _. ⌜ now (line .exit) ≡ straightLine bytes (λ s d. s) (λ i. getD (now (source .entry)) i 0) width (now (line .entry)) ⌝ }
-{
-    let mut i = 0;
-    while i < width {
-        pixel_code::put_pixel(line, bytes, i * bytes, source[i]);
-        i += 1;
-    }
-}
-
-// A source pixel and the pixel at a place, combined under a raster code and stored there.
-fn combine_pixel(line: &mut [u8], bytes: usize, at: usize, code: u8, v: u16)
-    requires { ⌜ (0 < bytes) × (bytes ≤ 2) × (at + bytes ≤ length (now line)) ⌝ }
-    ensures { λ _. ⌜ now (line .exit) ≡ putPixel bytes (now (line .entry)) at (raster (8 * bytes) code v (getPixel bytes (now (line .entry)) at)) ⌝ }
-{
-    let d = pixel_code::get_pixel(line, bytes, at);
-    let r = pixel_code::combine((8 * bytes) as u32, code, v, d);
-    pixel_code::put_pixel(line, bytes, at, r);
-}
-
-// Pixels of a source line, combined with those of the line under a raster code, side by side.
-fn combine_pixels(line: &mut [u8], bytes: usize, width: usize, code: u8, source: &[u16])
-    requires { ⌜ (0 < bytes) × (bytes ≤ 2) × (width ≤ 1024) × (length (now line) ≡ width * bytes) × (width ≤ length (now source)) ⌝ }
-    ensures { λ _. ⌜ now (line .exit) ≡ straightLine bytes (raster (8 * bytes) code) (λ i. getD (now (source .entry)) i 0) width (now (line .entry)) ⌝ }
-{
-    let mut i = 0;
-    while i < width {
-        combine_pixel(line, bytes, i * bytes, code, source[i]);
-        i += 1;
-    }
-}
-
-// Which pixel of a line, from its low end, is drawn as the n-th.
-fn rank_of(down: bool, width: usize, n: usize) -> usize
-    requires { ⌜ n < width ⌝ }
-    ensures { λ r. ⌜ (r ≡ rank down width n) × (r < width) ⌝ }
-{
-    if down { width - 1 - n } else { n }
-}
-
-// The source of the n-th drawn pixel: from the source line, or, from the lag on, the line's own pixel that many pixels back.
-fn lagged_pixel(
-    line: &[u8],
-    down: bool,
-    bytes: usize,
-    width: usize,
-    pixel: u16,
-    lag: usize,
-    n: usize,
-) -> u16
-    requires { ⌜ (0 < bytes) × (bytes ≤ 2) × (n < width) × (width ≤ 1024) × (length (now line) ≡ width * bytes) ⌝ }
-    ensures { λ r. ⌜ r ≡ cond (ltb n lag) pixel (getPixel bytes (now (line .entry)) (spot down bytes width (n - lag))) ⌝ }
-{
-    if n < lag {
-        return pixel;
-    }
-    let k = rank_of(down, width, n - lag);
-    pixel_code::get_pixel(line, bytes, k * bytes)
-}
-
-// The pixels of a line whose source, from the lag on, is the line itself, one by one in the direction named.
-fn smear_pixels(
-    line: &mut [u8],
-    down: bool,
-    bytes: usize,
-    width: usize,
-    code: u8,
-    source: &[u16],
-    lag: usize,
-)
-    requires { ⌜ (0 < bytes) × (bytes ≤ 2) × (width ≤ 1024) × (length (now line) ≡ width * bytes) × (width ≤ length (now source)) ⌝ }
-    ensures { λ _. ⌜ now (line .exit) ≡ workLine down bytes width code (now (source .entry)) lag width (now (line .entry)) ⌝ }
-{
-    let mut n = 0;
-    while n < width {
-        let k = rank_of(down, width, n);
-        let v = lagged_pixel(line, down, bytes, width, source[k], lag, n);
-        combine_pixel(line, bytes, k * bytes, code, v);
-        n += 1;
-    }
-}
-
-// Draws one colour over a lent line.
-fn fill_worker(line: &mut [u8], bytes: usize, width: usize, colour: u16)
-    requires { ⌜ (0 < bytes) × (bytes ≤ 2) × (width ≤ 1024) × (length (now line) ≡ width * bytes) ⌝ }
-    ensures { λ _. ⌜ now (line .exit) ≡ straightLine bytes (λ s d. s) (λ i. colour) width (now (line .entry)) ⌝ }
-{
-    if bytes == 1 {
-        fill_pixels(line, 1, width, colour);
-    } else {
-        fill_pixels(line, 2, width, colour);
-    }
-}
-
-// Draws a source line over a lent line under a raster code, in the direction named. From the lag on the source is the line itself.
-fn line_worker(
-    line: &mut [u8],
-    down: bool,
-    bytes: usize,
-    width: usize,
-    code: u8,
-    source: &[u16],
-    lag: usize,
-)
-    requires { ⌜ (0 < bytes) × (bytes ≤ 2) × (width ≤ 1024) × (length (now line) ≡ width * bytes) × (width ≤ length (now source)) ⌝ }
-    ensures { λ _. ⌜ now (line .exit) ≡ workLine down bytes width code (now (source .entry)) lag width (now (line .entry)) ⌝ }
-{
-    if lag < width {
-        smear_pixels(line, down, bytes, width, code, source, lag);
-        return;
-    }
-    if code == 0xC {
-        if bytes == 1 {
-            copy_pixels(line, 1, width, source);
-        } else {
-            copy_pixels(line, 2, width, source);
-        }
-        return;
-    }
-    if bytes == 1 {
-        combine_pixels(line, 1, width, code, source);
-    } else {
-        combine_pixels(line, 2, width, code, source);
-    }
-}
-
-// Pixels of memory from an address on.
-fn read_pixels(memory: &[u8], bytes: usize, width: usize, at: usize, source: &mut [u16])
-    requires { ⌜ (0 < bytes) × (bytes ≤ 2) × (width ≤ length (now source)) × (at + width * bytes ≤ length (now memory)) ⌝ }
-    ensures { λ _. ⌜ now (source .exit) ≡ readLine bytes (now (memory .entry)) at width (now (source .entry)) ⌝ }
-{
-    let mut i = 0;
-    while i < width {
-        let v = pixel_code::get_pixel(memory, bytes, at + i * bytes);
-        source[i] = v;
-        i += 1;
-    }
-}
-
-// Reads a source line.
-fn read_line(memory: &[u8], bytes: usize, width: usize, at: usize, source: &mut [u16])
-    requires { ⌜ (0 < bytes) × (bytes ≤ 2) × (width ≤ length (now source)) × (at + width * bytes ≤ length (now memory)) ⌝ }
-    ensures { λ _. ⌜ now (source .exit) ≡ readLine bytes (now (memory .entry)) at width (now (source .entry)) ⌝ }
-{
-    if bytes == 1 {
-        read_pixels(memory, 1, width, at, source);
-    } else {
-        read_pixels(memory, 2, width, at, source);
     }
 }
 
@@ -257,10 +89,10 @@ fn colour_line(job: Job, j: usize, colour: u16, memory: &mut [u8])
     let e = d + job.width * job.bytes;
     let mix = job.mix;
     match mix {
-        Mix::Store => fill_worker(&mut memory[d..e], job.bytes, job.width, colour),
+        Mix::Store => blit_line::fill_worker(&mut memory[d..e], job.bytes, job.width, colour),
         Mix::Raster(code) => {
             let source = same_pixels(colour);
-            line_worker(
+            blit_line::line_worker(
                 &mut memory[d..e],
                 job.down,
                 job.bytes,
@@ -281,12 +113,12 @@ fn move_line(job: Job, j: usize, from: u32, source: &mut [u16], memory: &mut [u8
 {
     let s = low_end(job.down, job.bytes, job.line, job.width, from, j);
     let d = low_end(job.down, job.bytes, job.line, job.width, job.destination, j);
-    read_line(memory, job.bytes, job.width, s, source);
+    blit_line::read_line(memory, job.bytes, job.width, s, source);
     let lag = lag_of(job.down, job.bytes, job.width, s, d);
     let mix = job.mix;
     let code = code_of(mix);
     let e = d + job.width * job.bytes;
-    line_worker(
+    blit_line::line_worker(
         &mut memory[d..e],
         job.down,
         job.bytes,
@@ -353,7 +185,7 @@ pub fn put_word(bytes: usize, mix: Mix, at: usize, count: usize, word: u16, memo
     let source = word_pixels(bytes, word);
     let code = code_of(mix);
     let e = at + count * bytes;
-    line_worker(
+    blit_line::line_worker(
         &mut memory[at..e],
         false,
         bytes,

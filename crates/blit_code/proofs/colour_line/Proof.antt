@@ -3,7 +3,7 @@ use mathlib.Core.List.{List}
 use Prim.Native.Nat.{ℕ, _+_, _-_, _*_}
 use native.Mathlib.Omega.{arith}
 use lib.ListN.{getD, getD-replicate}
-use Rattle.blit_code.specs.Worker.{codeOf}
+use Rattle.blit_code.specs.Lines.{codeOf}
 use Rattle.blit_code.proofs.Lines.{colour-back, fill-back, line-bytes, to-room, to-zero}
 use borrow.Author.Needs.{needs}
 use Rattle.blit_code.proofs.colour_line.Statement.{statement}

@@ -1,7 +1,7 @@
 use mathlib.Core.Path.{ap, _∙_}
 use Prim.Native.Nat.{ℕ, _+_, _-_, _*_}
 use native.Mathlib.Omega.{arith}
-use Rattle.blit_code.specs.Worker.{readLine}
+use Rattle.blit_line.specs.Line.{readLine}
 use Rattle.blit_code.proofs.Lines.{from-room, from-zero, line-bytes, move-back, to-room, to-zero}
 use borrow.Author.Needs.{needs}
 use Rattle.blit_code.proofs.move_line.Statement.{statement}

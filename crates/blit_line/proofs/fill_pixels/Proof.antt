@@ -5,11 +5,11 @@ use native.Mathlib.Omega.{arith}
 use borrow.Author.Needs.{needs}
 use lib.ListN.{length}
 use Rattle.pixel.proofs.Pixels.{length-put}
-use Rattle.blit_code.specs.Worker.{straightLine}
+use Rattle.blit_line.specs.Line.{straightLine}
 use Rattle.blit.proofs.Runs.{step-fits}
-use Rattle.blit_code.proofs.Worker.{straight-none, straight-more, straight-end}
-use Rattle.blit_code.proofs.fill_pixels.Statement.{statement}
-use Rattle.blit_code.proofs.fill_pixels.Tie as tie
+use Rattle.blit_line.proofs.Worker.{straight-none, straight-more, straight-end}
+use Rattle.blit_line.proofs.fill_pixels.Statement.{statement}
+use Rattle.blit_line.proofs.fill_pixels.Tie as tie
 
 abbrev Inv-loop : tie.InvT-loop
 Inv-loop line₀ bytes width colour i₀ line i = (i ≤ width) × (length line ≡ width * bytes) × (line ≡ straightLine bytes (λ s d. s) (λ k. colour) i line₀)

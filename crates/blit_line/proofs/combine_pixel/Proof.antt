@@ -1,6 +1,6 @@
 use borrow.Author.Needs.{needs}
-use Rattle.blit_code.proofs.combine_pixel.Statement.{statement}
-use Rattle.blit_code.proofs.combine_pixel.Tie as tie
+use Rattle.blit_line.proofs.combine_pixel.Statement.{statement}
+use Rattle.blit_line.proofs.combine_pixel.Tie as tie
 
 get-pixel-requires : tie.Need-get-pixel-requires
 get-pixel-requires c κs = search needs

@@ -16,10 +16,7 @@ use Rattle.pixel.specs.Raster.{raster}
 use Rattle.pixel.proofs.Pixels.{get-put-above, get-put-below}
 use Rattle.pixel.proofs.Raster.{copies}
 use Rattle.blit.specs.Blit.{pixels}
-use Rattle.blit_code.specs.Job.{mixOf}
-use Rattle.blit_code.specs.Worker.{codeOf, rank, spot, lagged, workLine, straightLine}
-use Rattle.blit_code.specs.declared.Mix.{Mix}
-use Rattle.blit_code.specs.declared.Mix.the-variants.{Store, Raster}
+use Rattle.blit_line.specs.Line.{rank, spot, lagged, workLine, straightLine}
 use Rattle.blit.proofs.Runs.{pixels-append, pixels-ext, step-fits}
 
 -- ---- pixels apart may be stored in either order
@@ -156,11 +153,6 @@ store-is-code bytes place fetch (suc n) m =
     (ap (putPixel bytes x (place n))
     (copies (8 * bytes) (fetch x n) (getPixel bytes x (place n)) ∙ ap (λ (p : ℕ). fetch x n % p) (pow-bytes bytes))
     ∙ put-rest bytes x (place n) (fetch x n))
-
-pub mix-is-code : (mix : Mix) (bytes : ℕ) (place : ℕ → ℕ) (fetch : List ℕ → ℕ → ℕ) (n : ℕ) (m : List ℕ)
-    → pixels bytes (mixOf mix bytes) place fetch n m ≡ pixels bytes (raster (8 * bytes) (codeOf mix)) place fetch n m
-mix-is-code Store bytes place fetch n m = store-is-code bytes place fetch n m
-mix-is-code (Raster c) bytes place fetch n m = refl
 
 -- ---- the worker's straight lines, at a number of bytes that is known by an equation
 

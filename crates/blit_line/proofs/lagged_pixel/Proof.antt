@@ -1,9 +1,9 @@
-use Rattle.blit_code.proofs.Worker.{lag-early, lag-late}
+use Rattle.blit_line.proofs.Worker.{lag-early, lag-late}
 use Rattle.blit.proofs.Runs.{step-fits}
 use native.Mathlib.Omega.{arith}
 use borrow.Author.Needs.{needs}
-use Rattle.blit_code.proofs.lagged_pixel.Statement.{statement}
-use Rattle.blit_code.proofs.lagged_pixel.Tie as tie
+use Rattle.blit_line.proofs.lagged_pixel.Statement.{statement}
+use Rattle.blit_line.proofs.lagged_pixel.Tie as tie
 
 returns : tie.Need-returns
 returns c = lag-early _ _ _ _ (c .if1 .taken)

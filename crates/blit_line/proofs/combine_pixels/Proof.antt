@@ -6,11 +6,11 @@ use borrow.Author.Needs.{needs}
 use lib.ListN.{length, getD}
 use Rattle.pixel.specs.Raster.{raster}
 use Rattle.pixel.proofs.Pixels.{length-put}
-use Rattle.blit_code.specs.Worker.{straightLine}
+use Rattle.blit_line.specs.Line.{straightLine}
 use Rattle.blit.proofs.Runs.{step-fits}
-use Rattle.blit_code.proofs.Worker.{straight-none, straight-more, straight-end}
-use Rattle.blit_code.proofs.combine_pixels.Statement.{statement}
-use Rattle.blit_code.proofs.combine_pixels.Tie as tie
+use Rattle.blit_line.proofs.Worker.{straight-none, straight-more, straight-end}
+use Rattle.blit_line.proofs.combine_pixels.Statement.{statement}
+use Rattle.blit_line.proofs.combine_pixels.Tie as tie
 
 abbrev Inv-loop : tie.InvT-loop
 Inv-loop line₀ bytes width code source i₀ line i = (i ≤ width) × (length line ≡ width * bytes) × (line ≡ straightLine bytes (raster (8 * bytes) code) (λ k. getD source k 0) i line₀)

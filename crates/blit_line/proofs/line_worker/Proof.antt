@@ -1,10 +1,10 @@
 use mathlib.Core.Path.{_≡_, ap}
 use Prim.Native.Nat.{ℕ, _*_}
 use native.Mathlib.Omega.{arith}
-use Rattle.blit_code.proofs.Straight.{copy-work, combine-work}
+use Rattle.blit_line.proofs.Straight.{copy-work, combine-work}
 use borrow.Author.Needs.{needs}
-use Rattle.blit_code.proofs.line_worker.Statement.{statement}
-use Rattle.blit_code.proofs.line_worker.Tie as tie
+use Rattle.blit_line.proofs.line_worker.Statement.{statement}
+use Rattle.blit_line.proofs.line_worker.Tie as tie
 
 smear-pixels-requires : tie.Need-smear-pixels-requires
 smear-pixels-requires c κs = search needs

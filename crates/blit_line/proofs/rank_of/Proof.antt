@@ -1,8 +1,8 @@
-use Rattle.blit_code.proofs.Worker.{rank-down, rank-up}
+use Rattle.blit_line.proofs.Worker.{rank-down, rank-up}
 use native.Mathlib.Omega.{arith}
 use borrow.Author.Needs.{needs}
-use Rattle.blit_code.proofs.rank_of.Statement.{statement}
-use Rattle.blit_code.proofs.rank_of.Tie as tie
+use Rattle.blit_line.proofs.rank_of.Statement.{statement}
+use Rattle.blit_line.proofs.rank_of.Tie as tie
 
 sub-result : tie.Need-sub-result
 sub-result c = search needs

@@ -1,10 +1,10 @@
 use mathlib.Core.Path.{_≡_, sym, ap, _∙_}
 use Prim.Native.Nat.{ℕ, _*_}
 use native.Mathlib.Omega.{arith}
-use Rattle.blit_code.specs.Worker.{straightLine}
+use Rattle.blit_line.specs.Line.{straightLine}
 use borrow.Author.Needs.{needs}
-use Rattle.blit_code.proofs.fill_worker.Statement.{statement}
-use Rattle.blit_code.proofs.fill_worker.Tie as tie
+use Rattle.blit_line.proofs.fill_worker.Statement.{statement}
+use Rattle.blit_line.proofs.fill_worker.Tie as tie
 
 fill-pixels-requires : tie.Need-fill-pixels-requires
 fill-pixels-requires c κs = let a = c .before .before .before .args in omega (arith, ap (λ (k : ℕ). a .width * k) (c .before .if1 .taken))

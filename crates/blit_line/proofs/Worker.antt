@@ -10,7 +10,7 @@ use lib.ListN.{getD}
 use Rattle.pixel.specs.Pixel.{getPixel, putPixel}
 use Rattle.pixel.specs.Raster.{raster}
 use Rattle.blit.specs.Blit.{pixels}
-use Rattle.blit_code.specs.Worker.{rank, spot, lagged, workLine, straightLine}
+use Rattle.blit_line.specs.Line.{rank, spot, lagged, workLine, straightLine}
 use Rattle.blit.proofs.Runs.{step-fits}
 
 -- ---- places in the line

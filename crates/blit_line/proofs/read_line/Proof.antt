@@ -1,10 +1,10 @@
 use mathlib.Core.Path.{_≡_, sym, ap, _∙_}
 use Prim.Native.Nat.{ℕ, _*_}
 use native.Mathlib.Omega.{arith}
-use Rattle.blit_code.specs.Worker.{readLine}
+use Rattle.blit_line.specs.Line.{readLine}
 use borrow.Author.Needs.{needs}
-use Rattle.blit_code.proofs.read_line.Statement.{statement}
-use Rattle.blit_code.proofs.read_line.Tie as tie
+use Rattle.blit_line.proofs.read_line.Statement.{statement}
+use Rattle.blit_line.proofs.read_line.Tie as tie
 
 read-pixels-requires : tie.Need-read-pixels-requires
 read-pixels-requires c κs = let a = c .before .before .before .before .args in omega (arith, ap (λ (k : ℕ). a .width * k) (c .before .if1 .taken))

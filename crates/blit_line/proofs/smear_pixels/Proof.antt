@@ -5,11 +5,11 @@ use native.Mathlib.Omega.{arith}
 use borrow.Author.Needs.{needs}
 use lib.ListN.{length}
 use Rattle.pixel.proofs.Pixels.{length-put}
-use Rattle.blit_code.specs.Worker.{workLine}
+use Rattle.blit_line.specs.Line.{workLine}
 use Rattle.blit.proofs.Runs.{step-fits}
-use Rattle.blit_code.proofs.Worker.{work-none, work-more, work-end}
-use Rattle.blit_code.proofs.smear_pixels.Statement.{statement}
-use Rattle.blit_code.proofs.smear_pixels.Tie as tie
+use Rattle.blit_line.proofs.Worker.{work-none, work-more, work-end}
+use Rattle.blit_line.proofs.smear_pixels.Statement.{statement}
+use Rattle.blit_line.proofs.smear_pixels.Tie as tie
 
 abbrev Inv-loop : tie.InvT-loop
 Inv-loop line₀ down bytes width code source lag n₀ line n = (n ≤ width) × (length line ≡ width * bytes) × (line ≡ workLine down bytes width code source lag n line₀)

@@ -4,11 +4,11 @@ use native.Mathlib.Numerals.{add-one}
 use native.Mathlib.Omega.{arith}
 use borrow.Author.Needs.{needs}
 use lib.ListN.{length, length-set}
-use Rattle.blit_code.specs.Worker.{readLine}
+use Rattle.blit_line.specs.Line.{readLine}
 use Rattle.blit.proofs.Runs.{step-fits}
-use Rattle.blit_code.proofs.Lift.{read-none, read-more, read-end}
-use Rattle.blit_code.proofs.read_pixels.Statement.{statement}
-use Rattle.blit_code.proofs.read_pixels.Tie as tie
+use Rattle.blit_line.proofs.Read.{read-none, read-more, read-end}
+use Rattle.blit_line.proofs.read_pixels.Statement.{statement}
+use Rattle.blit_line.proofs.read_pixels.Tie as tie
 
 abbrev Inv-loop : tie.InvT-loop
 Inv-loop memory bytes width at source₀ i₀ source i = (i ≤ width) × (length source ≡ length source₀) × (source ≡ readLine bytes memory at i source₀)

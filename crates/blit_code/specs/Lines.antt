@@ -1,0 +1,26 @@
+-- Where the lines of a rectangle stand, as the private functions of this crate count them. Nothing of 01 cites it.
+use Prim.Native.Nat.{ℕ, _+_, _-_, _*_, _/_, _≤_}
+use mathlib.Core.Bool.{Bool, true, false, cond}
+use lib.Dec.{ltb}
+use Rattle.blit_code.specs.declared.Mix.{Mix}
+use Rattle.blit_code.specs.declared.Mix.the-variants.{Store, Raster}
+
+-- the raster code that does what a mix does: Ch copies
+abbrev pub codeOf : Mix → ℕ
+codeOf Store = 0xC
+codeOf (Raster c) = c
+
+-- from which pixel on a move's source is a pixel that its own line has stored: s and d are the low ends of the two lines
+unfoldable pub lagOf : Bool → ℕ → ℕ → ℕ → ℕ → ℕ
+lagOf false bytes width s d = cond (ltb s d) ((d - s) / bytes) width
+lagOf true bytes width s d = cond (ltb d s) ((s - d) / bytes) width
+
+-- the low end of line j of a rectangle that is drawn from address a
+unfoldable pub lowEnd : Bool → ℕ → ℕ → ℕ → ℕ → ℕ → ℕ
+lowEnd false bytes line width a j = a + j * line
+lowEnd true bytes line width a j = a + bytes - (j * line + width * bytes)
+
+-- drawn downwards, line j does not run below address 0
+abbrev pub AboveZero : Bool → ℕ → ℕ → ℕ → ℕ → ℕ → Type 0
+AboveZero false bytes line width a j = Unit {0}
+AboveZero true bytes line width a j = j * line + width * bytes ≤ a + bytes

@@ -1,0 +1,3 @@
+pub mod Worker
+pub mod Straight
+pub mod Read
