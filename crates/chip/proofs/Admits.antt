@@ -2,15 +2,16 @@
 use Prim.Native.Nat.{ℕ}
 use mathlib.Core.Path.{_≡_, refl, sym, ap}
 use mathlib.Core.Bool.{Bool, true, false, not, _&&_, _||_, cond}
-use mathlib.Core.List.{List}
+use mathlib.Core.List.{List, [], _∷_}
 use native.Mathlib.Omega.{arith}
-use Rattle.record.specs.Checks.{Numbered, AllPass}
+use lib.Dec.{leb}
+use Rattle.record.specs.Checks.{row, firstOf, Numbered, AllPass}
 use Rattle.record.specs.declared.Record.{Record}
 use Rattle.record.proofs.Checks.{none, none-back}
 use Rattle.blit.specs.Words.{chipWord}
-use Rattle.chip.specs.Register.{listed, fits}
+use Rattle.chip.specs.Register.{listed, fits, screenAfter, blitAfter}
 use Rattle.chip.specs.Start.{operation, startable, within, writeOf, started}
-use Rattle.chip.specs.Admit.{isData, starts, written, admitRows, refusal, effect}
+use Rattle.chip.specs.Admit.{isData, starts, written, admitRows, refusal, dueAfter, chipAfter, effect}
 use Rattle.chip.specs.declared.Registers.{Registers}
 use Rattle.chip.specs.declared.Chip.{Chip}
 
@@ -95,3 +96,21 @@ module _ (c : Chip) (r : Record) (old new : List ℕ) where
   pub no-effect : isData r ≡ false → starts r ≡ false → new ≡ old → new ≡ effect c r old
   unfolding effect
   no-effect e f h = rw (e, f) h
+
+-- ---- a data word alone
+
+or-none : (b : Bool) → (b || false) ≡ b
+or-none true = refl
+or-none false = refl
+
+-- what is asked of it
+pub data-refusal : (m : ℕ) (c : Chip) (r : Record) → r .number ≡ 0x10000
+    → firstOf (row 20 false ∷ row 21 (not (leb (r .value) 0xFFFF)) ∷ row 22 false ∷ row 23 (not (c .due .any)) ∷ []) ≡ refusal m c r
+unfolding refusal admitRows listed fits
+data-refusal m c r e = simp (e, or-none)
+
+-- it changes no register
+pub data-after : (c : Chip) (r : Record) → r .number ≡ 0x10000
+    → _≡_ {A = Chip} (record { screen = c .screen; blit = c .blit; due = dueAfter (c .blit) (c .due) }) (chipAfter c r)
+unfolding chipAfter screenAfter blitAfter
+data-after c r e = simp e

@@ -1,12 +1,12 @@
 // The chip's registers, and admitting the records of a stream on registers and sizes alone.
 ghost use mathlib.Core.Path.{_≡_};
-ghost use mathlib.Core.Bool.{cond};
+ghost use mathlib.Core.Bool.{false, cond};
 ghost use Prim.Native.Nat.{_≤_};
 ghost use Rattle.record.specs.Record.{recordsOf};
 ghost use Rattle.blit.specs.Words.{lineWords};
 ghost use Rattle.chip.specs.Register.{listed, fits, screenAfter, blitAfter};
 ghost use Rattle.chip.specs.Start.{operation, rasterCode, bytesOf, sourceOf, destinationOf, lineOf, widthOf, heightOf, foregroundOf, startable, span, forward, backward, within};
-ghost use Rattle.chip.specs.Admit.{starts, refusal, dueAfter, dueOf, chipAfter};
+ghost use Rattle.chip.specs.Admit.{isData, starts, refusal, dueAfter, dueOf, chipAfter};
 ghost use Rattle.chip.specs.Play.{newChip, run};
 ghost use Rattle.record.specs.Checks.{firstOf, row};
 ghost use mathlib.Core.List.{[], _∷_};
@@ -32,12 +32,6 @@ fn choose_wide(t: bool, a: u64, b: u64) -> u64
 }
 
 fn choose_flag(t: bool, a: bool, b: bool) -> bool
-    ensures { λ r. ⌜ r ≡ cond t a b ⌝ }
-{
-    if t { a } else { b }
-}
-
-fn choose_due(t: bool, a: Due, b: Due) -> Due
     ensures { λ r. ⌜ r ≡ cond t a b ⌝ }
 {
     if t { a } else { b }
@@ -251,19 +245,29 @@ fn first_fault(listed: bool, value: bool, reach: bool, order: bool) -> u32
     0
 }
 
+// 0, or why a register write is refused, in a memory of so many bytes.
+fn register_refusal(memory: u64, c: Chip, r: Record) -> u32
+    requires { ⌜ isData r ≡ false ⌝ }
+    ensures { λ x. ⌜ x ≡ refusal memory c r ⌝ }
+{
+    let d = c.due;
+    let start = starts_blit(r);
+    let next = blit_after(c.blit, r.number, r.value);
+    let listed = !is_listed(r.number);
+    let value = !in_field(r.number, r.value) | (start & !is_startable(next));
+    let reach = start & !is_within(memory, next);
+    first_fault(listed, value, reach, d.any)
+}
+
 // 0, or why a record is refused, in a memory of so many bytes.
 pub fn refusal_of(memory: u64, c: Chip, r: Record) -> u32
     ensures { λ x. ⌜ x ≡ refusal memory c r ⌝ }
 {
-    let b = c.blit;
     let d = c.due;
-    let next = blit_after(b, r.number, r.value);
-    let start = starts_blit(r);
-    let listed = !is_listed(r.number);
-    let value = !in_field(r.number, r.value) | (start & !is_startable(next));
-    let reach = start & !is_within(memory, next);
-    let order = choose_flag(r.number == 0x10000, !d.any, d.any);
-    first_fault(listed, value, reach, order)
+    if r.number == 0x10000 {
+        return first_fault(false, !(r.value <= 0xFFFF), false, !d.any);
+    }
+    register_refusal(memory, c, r)
 }
 
 // The next word that is due once one has come.
@@ -305,17 +309,28 @@ fn due_of(b: Registers, r: Record) -> Due
     }
 }
 
+// The chip after a register write that is not refused.
+fn register_after(c: Chip, r: Record) -> Chip
+    requires { ⌜ isData r ≡ false ⌝ }
+    ensures { λ x. ⌜ x ≡ chipAfter c r ⌝ }
+{
+    let screen = screen_after(c.screen, r.number, r.value);
+    let blit = blit_after(c.blit, r.number, r.value);
+    let due = due_of(blit, r);
+    Chip { screen, blit, due }
+}
+
 // The chip after a record that is not refused.
 pub fn chip_after(c: Chip, r: Record) -> Chip
     ensures { λ x. ⌜ x ≡ chipAfter c r ⌝ }
 {
-    let s = c.screen;
-    let b = c.blit;
-    let d = c.due;
-    let screen = screen_after(s, r.number, r.value);
-    let blit = blit_after(b, r.number, r.value);
-    let due = choose_due(r.number == 0x10000, due_after(b, d), due_of(blit, r));
-    Chip { screen, blit, due }
+    if r.number == 0x10000 {
+        let screen = c.screen;
+        let blit = c.blit;
+        let due = due_after(blit, c.due);
+        return Chip { screen, blit, due };
+    }
+    register_after(c, r)
 }
 
 // All registers are 0, and no data is due.

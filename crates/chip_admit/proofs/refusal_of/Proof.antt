@@ -1,46 +1,22 @@
-use Rattle.chip.specs.Admit.{refusal, admitRows}
+use borrow.Author.Tests.{ne-eqb}
+use Rattle.chip.proofs.Admits.{data-refusal}
+use mathlib.Core.Path.{_∙_}
 use borrow.Author.Needs.{needs}
 use Rattle.chip_admit.proofs.refusal_of.Statement.{statement}
 use Rattle.chip_admit.proofs.refusal_of.Tie as tie
-
-blit-after-requires : tie.Need-blit-after-requires
-blit-after-requires c κs = search needs
-
-starts-blit-requires : tie.Need-starts-blit-requires
-starts-blit-requires c κs = search needs
-
-is-listed-requires : tie.Need-is-listed-requires
-is-listed-requires c κs = search needs
-
-in-field-requires : tie.Need-in-field-requires
-in-field-requires c κs = search needs
-
-is-startable-requires : tie.Need-is-startable-requires
-is-startable-requires c κs = search needs
-
-is-within-requires : tie.Need-is-within-requires
-is-within-requires c κs = search needs
-
-choose-flag-requires : tie.Need-choose-flag-requires
-choose-flag-requires c κs = search needs
 
 first-fault-requires : tie.Need-first-fault-requires
 first-fault-requires c κs = search needs
 
 returns : tie.Need-returns
-unfolding refusal admitRows
-returns c = simp (c .first-fault .ensures, c .before .before .before .before .is-within .ensures, c .before .before .before .before .before .is-startable .ensures, c .before .before .before .before .before .before .in-field .ensures, c .before .before .before .before .before .before .before .is-listed .ensures, c .before .choose-flag .ensures, c .before .before .before .before .before .before .before .before .starts-blit .ensures, c .before .before .before .before .before .before .before .before .before .blit-after .ensures)
+returns c = c .first-fault .ensures ∙ data-refusal _ _ _ (c .before .before .before .if1 .taken)
+
+register-refusal-requires : tie.Need-register-refusal-requires
+register-refusal-requires c κs = ne-eqb _ _ (c .if1 .left)
+
+returns-2 : tie.Need-returns-2
+returns-2 c = search needs
 
 pub refusal-of-spec : {M : Type 1} → statement M
 refusal-of-spec =
-    tie.close
-    (tie.spec
-    blit-after-requires
-    starts-blit-requires
-    is-listed-requires
-    in-field-requires
-    is-startable-requires
-    is-within-requires
-    choose-flag-requires
-    first-fault-requires
-    returns)
+    tie.close (tie.spec first-fault-requires returns register-refusal-requires returns-2)
