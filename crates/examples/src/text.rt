@@ -5,40 +5,23 @@ pub fn write(text: &[u8]) {
     io::write_all(STDOUT_FILENO, text);
 }
 
-pub fn write_decimal(n: u32) {
-    io::print_decimal(STDOUT_FILENO, n as u64);
+// A text and a number.
+pub fn write_decimal(before: &[u8], n: u64) {
+    write(before);
+    io::print_decimal(STDOUT_FILENO, n);
 }
 
-// The last hexadecimal digit of a number, as the papers write it.
-fn digit(n: u32) -> u8 {
-    let d = n % 16;
-    if d < 10 { 48 + d as u8 } else { 55 + d as u8 }
-}
-
-// The last two digits.
-pub fn write_two(n: u32) {
-    let text = [digit(n / 16), digit(n)];
-    write(&text);
-}
-
-// The last four digits.
-pub fn write_four(n: u32) {
-    write_two(n / 256);
-    write_two(n);
-}
-
-pub fn write_eight(n: u32) {
-    write_four(n / 65536);
-    write_four(n);
-}
-
-// A colour: one digit, or four and an h.
-pub fn write_colour(c: u32) {
-    if c < 16 {
-        let text = [digit(c)];
+// A text and a number as the papers write it: hexadecimal digits, from the one that counts `unit`, a power of 16, to the
+// last, and an h.
+pub fn write_hex(before: &[u8], n: u64, unit: u64) {
+    write(before);
+    let digits = b"0123456789ABCDEF";
+    let mut place = unit;
+    while 0 < place {
+        let d = (n / place % 16) as usize;
+        let text = [digits[d]];
         write(&text);
-        return;
+        place /= 16;
     }
-    write_four(c);
     write(b"h");
 }
