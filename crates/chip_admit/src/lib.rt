@@ -310,7 +310,7 @@ fn due_of(b: Registers, r: Record) -> Due
 }
 
 // The chip after a register write that is not refused.
-fn register_after(c: Chip, r: Record) -> Chip
+pub fn register_after(c: Chip, r: Record) -> Chip
     requires { ⌜ isData r ≡ false ⌝ }
     ensures { λ x. ⌜ x ≡ chipAfter c r ⌝ }
 {
@@ -320,17 +320,14 @@ fn register_after(c: Chip, r: Record) -> Chip
     Chip { screen, blit, due }
 }
 
-// The chip after a record that is not refused.
-pub fn chip_after(c: Chip, r: Record) -> Chip
-    ensures { λ x. ⌜ x ≡ chipAfter c r ⌝ }
+// The chip after a data word that is not refused.
+pub fn word_after(c: Chip) -> Chip
+    ensures { λ x. ⌜ x ≡ record { screen = c .screen; blit = c .blit; due = dueAfter (c .blit) (c .due) } ⌝ }
 {
-    if r.number == 0x10000 {
-        let screen = c.screen;
-        let blit = c.blit;
-        let due = due_after(blit, c.due);
-        return Chip { screen, blit, due };
-    }
-    register_after(c, r)
+    let screen = c.screen;
+    let blit = c.blit;
+    let due = due_after(blit, c.due);
+    Chip { screen, blit, due }
 }
 
 // All registers are 0, and no data is due.
@@ -387,7 +384,11 @@ pub fn check(memory: u64, stream: &[u8]) -> Run
                 chip,
             };
         }
-        chip = chip_after(chip, r);
+        if r.number == 0x10000 {
+            chip = word_after(chip);
+        } else {
+            chip = register_after(chip, r);
+        }
         i += 1;
     }
     Run {

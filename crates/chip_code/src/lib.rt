@@ -196,7 +196,11 @@ fn perform_all(stream: &[u8], memory: &mut [u8])
     while i < count {
         let r = record_code::record_at(stream, i);
         apply(chip, r, memory);
-        chip = chip_admit::chip_after(chip, r);
+        if r.number == 0x10000 {
+            chip = chip_admit::word_after(chip);
+        } else {
+            chip = chip_admit::register_after(chip, r);
+        }
         i += 1;
     }
 }

@@ -2,6 +2,8 @@
 use native.Mathlib.Nat.{sub-zero}
 use borrow.Author.Needs.{needs}
 use mathlib.Core.Path.{_≡_, sym, ap, _∙_}
+use mathlib.Core.Logic.{⊎-elim}
+use borrow.Author.Tests.{ne-eqb}
 use Prim.Native.Nat.{ℕ, _+_, _/_, _-_, _≤_}
 use native.Mathlib.Omega.{arith}
 use lib.ListN.{length}
@@ -10,6 +12,7 @@ use Rattle.record.proofs.Records.{records-end}
 use Rattle.chip.specs.Admit.{refusal, chipAfter}
 use Rattle.chip.specs.Play.{newChip, run}
 use Rattle.chip.specs.declared.Chip.{Chip}
+use Rattle.chip.proofs.Admits.{data-after}
 use Rattle.chip.proofs.Runs.{run-end, run-next, run-last}
 use Rattle.chip_admit.proofs.check.Statement.{statement}
 use Rattle.chip_admit.proofs.check.Tie as tie
@@ -48,8 +51,11 @@ returns c =
     sym (l .inv .1 ∙ run-last (a .memory) (l .chip) s (l .i) (length s / 8) (omega arith) (λ q. c .if1 .taken (e ∙ q))
     ∙ (λ t. record { number = sym e t; place = l .i; chip = l .chip }))
 
-chip-after-requires : tie.Need-chip-after-requires Inv-loop μ-loop
-chip-after-requires c κs = search needs
+word-after-requires : tie.Need-word-after-requires Inv-loop μ-loop
+word-after-requires c κs = search needs
+
+register-after-requires : tie.Need-register-after-requires Inv-loop μ-loop
+register-after-requires c κs = ne-eqb _ _ (c .if2 .left)
 
 add-i : tie.Need-add-i Inv-loop μ-loop
 add-i c = omega arith
@@ -57,16 +63,22 @@ add-i c = omega arith
 loop-less : tie.Need-loop-less Inv-loop μ-loop
 loop-less c = omega arith
 
+-- the chip after record i
+next : (c : tie.Joined2 Inv-loop μ-loop) → c .if2 .chip ≡ chipAfter (c .before .before .before .before .before .before .loop .chip) (recordAt (c .before .before .before .before .before .before .before .before .before .args .stream .now) (c .before .before .before .before .before .before .loop .i))
+next c =
+    let k : Chip = c .before .before .before .before .before .before .loop .chip in
+    ⊎-elim (λ w. w .2 ∙ w .1 .ensures ∙ data-after k _ (w .0 .taken)) (λ w. w .2 ∙ w .1 .ensures) (c .if2 .came)
+    ∙ ap (chipAfter k) (c .before .before .before .before .record-at .ensures)
+
 loop-again : tie.Need-loop-again Inv-loop μ-loop
 loop-again c =
-    let a = c .before .before .before .before .before .before .before .before .args in
-    let l = c .before .before .before .before .before .loop in
+    let a = c .before .before .before .before .before .before .before .before .before .args in
+    let l = c .before .before .before .before .before .before .loop in
     let s = a .stream .now in
-    let n : ℕ = length s / 8 in
-    let next = c .chip-after .ensures ∙ ap (chipAfter (l .chip)) (c .before .before .before .record-at .ensures) in (
+    let n : ℕ = length s / 8 in (
       omega arith,
-      l .inv .1 ∙ run-next (a .memory) (l .chip) s (l .i) n (omega arith) (sym (is (c .before .before)) ∙ c .before .if1 .left)
-          ∙ ap (λ (x : Chip). run (a .memory) x (l .i + 1) (recordsFrom s (l .i + 1) (n - (l .i + 1)))) (sym next),
+      l .inv .1 ∙ run-next (a .memory) (l .chip) s (l .i) n (omega arith) (sym (is (c .before .before .before)) ∙ c .before .before .if1 .left)
+          ∙ ap (λ (x : Chip). run (a .memory) x (l .i + 1) (recordsFrom s (l .i + 1) (n - (l .i + 1)))) (sym (next c)),
     )
 
 returns-2 : tie.Need-returns-2 Inv-loop μ-loop
@@ -90,7 +102,8 @@ check-spec =
     record-at-requires
     refusal-of-requires
     returns
-    chip-after-requires
+    word-after-requires
+    register-after-requires
     add-i
     loop-less
     loop-again
