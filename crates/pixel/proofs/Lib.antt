@@ -1,3 +1,4 @@
+pub mod Cases
 pub mod Depth
 pub mod Pixels
 pub mod Raster

@@ -1,3 +1,4 @@
+pub mod Cases
 pub mod Choice
 pub mod Checks
 pub mod Stores

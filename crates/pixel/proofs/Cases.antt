@@ -1,0 +1,44 @@
+-- Some pixels, computed: 01's "low byte first", "pixel 0 in the lowest byte and, below depth 8, in its highest bits", and
+-- "bit (2s + d) of c".
+use mathlib.Core.Path.{_≡_, refl}
+use mathlib.Core.Bool.{true, false}
+use mathlib.Core.List.{List, [], _∷_}
+use Prim.Native.Nat.{ℕ}
+use Rattle.pixel.specs.Depth.{isDepth, perDword}
+use Rattle.pixel.specs.Pixel.{getPixel, putPixel, byteOf, dwordPixel}
+use Rattle.pixel.specs.Raster.{bit, bitwise, raster}
+
+pub depth-cases : (isDepth 1 ≡ true) × (isDepth 16 ≡ true) × (isDepth 3 ≡ false) × (isDepth 32 ≡ false) × (perDword 4 ≡ 8)
+unfolding isDepth
+depth-cases = (refl, refl, refl, refl, refl)
+
+pub pixel-cases : (getPixel 1 (9 ∷ 0x34 ∷ 0x12 ∷ []) 1 ≡ 0x34)
+    × (getPixel 2 (9 ∷ 0x34 ∷ 0x12 ∷ []) 1 ≡ 0x1234)
+    × (putPixel 2 (9 ∷ 0 ∷ 0 ∷ 9 ∷ []) 1 0x1234 ≡ 9 ∷ 0x34 ∷ 0x12 ∷ 9 ∷ [])
+    × (byteOf 0 0x1234 ≡ 0x34)
+    × (byteOf 1 0x1234 ≡ 0x12)
+unfolding getPixel putPixel byteOf
+pixel-cases = (refl, refl, refl, refl, refl)
+
+-- a dword of the bytes 12h 34h 56h 78h at each depth
+abbrev four : List ℕ
+four = 0x12 ∷ 0x34 ∷ 0x56 ∷ 0x78 ∷ []
+
+pub dword-cases : (dwordPixel 1 four 0 3 ≡ 1)
+    × (dwordPixel 2 four 0 1 ≡ 1)
+    × (dwordPixel 4 four 0 0 ≡ 1)
+    × (dwordPixel 4 four 0 1 ≡ 2)
+    × (dwordPixel 8 four 0 1 ≡ 0x34)
+    × (dwordPixel 16 four 0 1 ≡ 0x7856)
+unfolding getPixel dwordPixel
+dword-cases = (refl, refl, refl, refl, refl, refl)
+
+-- the source, the destination, exclusive or, and the source where the destination is 0
+pub raster-cases : (bit 6 2 ≡ 1)
+    × (bit 6 3 ≡ 0)
+    × (raster 4 0xC 0xC 0xA ≡ 0xC)
+    × (raster 4 0xA 0xC 0xA ≡ 0xA)
+    × (raster 4 6 0xC 0xA ≡ 6)
+    × (raster 4 4 0xC 0xA ≡ 4)
+unfolding bitwise
+raster-cases = (refl, refl, refl, refl, refl, refl)

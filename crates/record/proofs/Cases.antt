@@ -1,0 +1,29 @@
+-- Some bytes and tables, computed: little-endian numbers, two stream records, and the first of the rows that fail.
+use mathlib.Core.Path.{_≡_, refl}
+use mathlib.Core.Bool.{true, false}
+use mathlib.Core.List.{List, [], _∷_}
+use Prim.Native.Nat.{ℕ}
+use Rattle.record.specs.Bytes.{byteAt, u16At, u32At, fourBytes, allZero, over}
+use Rattle.record.specs.Record.{entry, recordBytes, streamBytes, recordAt, recordsFrom, recordsOf}
+use Rattle.record.specs.Checks.{row, firstOf}
+
+pub number-cases : (u16At (9 ∷ 0x34 ∷ 0x12 ∷ []) 1 ≡ 0x1234)
+    × (u32At (9 ∷ 0x78 ∷ 0x56 ∷ 0x34 ∷ 0x12 ∷ []) 1 ≡ 0x12345678)
+    × (fourBytes 0x12345678 ≡ 0x78 ∷ 0x56 ∷ 0x34 ∷ 0x12 ∷ [])
+    × (byteAt (9 ∷ []) 1 ≡ 0)
+number-cases = (refl, refl, refl, refl)
+
+pub byte-cases : (allZero (0 ∷ 0 ∷ []) ≡ true) × (allZero (0 ∷ 1 ∷ []) ≡ false) × (over (1 ∷ 2 ∷ []) (7 ∷ 8 ∷ 9 ∷ []) ≡ 1 ∷ 2 ∷ 9 ∷ [])
+unfolding allZero
+byte-cases = (refl, refl, refl)
+
+-- the records of main start 0 and a host data word 0201h
+pub record-cases : (recordBytes (entry 0x40 0) ≡ 0x40 ∷ 0 ∷ 0 ∷ 0 ∷ 0 ∷ 0 ∷ 0 ∷ 0 ∷ [])
+    × (streamBytes (entry 0x40 0 ∷ entry 0x10000 0x201 ∷ []) ≡ 0x40 ∷ 0 ∷ 0 ∷ 0 ∷ 0 ∷ 0 ∷ 0 ∷ 0 ∷ 0 ∷ 0 ∷ 1 ∷ 0 ∷ 1 ∷ 2 ∷ 0 ∷ 0 ∷ [])
+    × (recordsOf (0x40 ∷ 0 ∷ 0 ∷ 0 ∷ 0 ∷ 0 ∷ 0 ∷ 0 ∷ 0 ∷ 0 ∷ 1 ∷ 0 ∷ 1 ∷ 2 ∷ 0 ∷ 0 ∷ []) ≡ entry 0x40 0 ∷ entry 0x10000 0x201 ∷ [])
+unfolding recordBytes streamBytes recordAt recordsFrom recordsOf
+record-cases = (refl, refl, refl)
+
+pub first-cases : (firstOf (row 1 false ∷ row 2 true ∷ row 3 true ∷ []) ≡ 2) × (firstOf (row 1 false ∷ row 2 false ∷ []) ≡ 0)
+unfolding firstOf
+first-cases = (refl, refl)
