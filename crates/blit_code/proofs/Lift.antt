@@ -3,26 +3,28 @@ use mathlib.Core.Path.{_≡_, refl, sym, ap, ap₂, _∙_}
 use mathlib.Core.Bool.{Bool, true, false}
 use mathlib.Core.Logic.{_⊎_, inl, inr, ⊎-elim}
 use mathlib.Core.List.{List, _++_}
-use Prim.Native.Nat.{ℕ, zero, suc, _+_, _-_, _*_, _/_, _%_, _≤_, _<_}
-use native.Mathlib.Nat.{add-mul, div-mul-cancel, dvd-of-mod-eq-zero, dvd-sub}
+use Prim.Native.Nat.{ℕ, zero, suc, _+_, _-_, _*_, _/_, _%_, _^_, _≤_, _<_}
+use native.Mathlib.Nat.{add-mul, div-mul-cancel, dvd-of-mod-eq-zero, dvd-sub, mod-lt, pow-suc, suc-mul, zero-add}
 use native.Mathlib.Omega.{arith}
 use borrow.Author.Tests.{lt-ltb, le-ltb}
 use borrow.Rule.Slice.PartMut.{put-same}
-use lib.ListN.{length, getD, set, take, drop, replicate, getD-replicate, length-drop, length-set, length-take}
-use lib.Seq.{getD-set-other, getD-set-same}
+use lib.Arith.{digits-div, digits-mod, mod-mul}
+use lib.Dec.{lit<}
+use lib.ListN.{length, take, drop, length-drop, length-take}
+use lib.Pow.{pow-pos}
 use Rattle.pixel.specs.Pixel.{getPixel, putPixel}
-use Rattle.pixel.specs.Raster.{raster}
-use Rattle.pixel.proofs.Pixels.{get-ext, get-part, put-part}
+use Rattle.pixel.specs.Raster.{bit, bitwise, raster}
+use Rattle.pixel.proofs.Pixels.{get-ext, get-part, get-put, get-put-below, put-part}
 use Rattle.blit.specs.Blit.{pixels}
-use Rattle.blit_line.specs.Line.{rank, spot, lagged, workLine, straightLine, readLine}
+use Rattle.blit_line.specs.Line.{rank, spot, lagged, workLine, straightLine, copied}
 use Rattle.blit_code.specs.Lines.{codeOf, lagOf}
 use Rattle.blit.proofs.Runs.{below-or-not, step-fits, length-pixels, keep-pixels, pixels-ext}
-use Rattle.blit_line.proofs.Worker.{rank-lt, spot-fits}
-use Rattle.blit_line.proofs.Read.{read-at}
+use Rattle.blit_line.proofs.Worker.{spot-fits}
+use Rattle.blit_line.proofs.Copy.{copied-pixel}
+use Rattle.blit_line.proofs.Straight.{pow-bytes, store-is-code}
 use Rattle.blit_code.specs.Job.{mixOf}
 use Rattle.blit_code.specs.declared.Mix.{Mix}
 use Rattle.blit_code.specs.declared.Mix.the-variants.{Store, Raster}
-use Rattle.blit_line.proofs.Straight.{store-is-code, straight-work}
 
 -- what a mix does, a raster code does
 pub mix-is-code : (mix : Mix) (bytes : ℕ) (place : ℕ → ℕ) (fetch : List ℕ → ℕ → ℕ) (n : ℕ) (m : List ℕ)
@@ -30,89 +32,145 @@ pub mix-is-code : (mix : Mix) (bytes : ℕ) (place : ℕ → ℕ) (fetch : List 
 mix-is-code Store bytes place fetch n m = store-is-code bytes place fetch n m
 mix-is-code (Raster c) bytes place fetch n m = refl
 
--- ---- the lent line put back
+-- ---- a lent part put back
+
+pub part-length : (d n : ℕ) (memory : List ℕ) → d + n ≤ length memory → length (take (d + n - d) (drop d memory)) ≡ n
+part-length d n memory h = simp (length-take, length-drop) (omega arith)
+
+-- a run over a part of the memory is the run over the memory, where each pixel has the same source
+module _ (bytes : ℕ) (combine : ℕ → ℕ → ℕ) (place : ℕ → ℕ) (fetch own : List ℕ → ℕ → ℕ) (width d k : ℕ) (memory : List ℕ)
+    (room : d + k ≤ length memory) (fits : (n : ℕ) → n < width → place n + bytes ≤ k)
+    (same : (n : ℕ) (l : List ℕ) → n < width → length l ≡ k
+    → pixels bytes combine (λ i. d + place i) fetch n memory ≡ take d memory ++ (l ++ drop k (drop d memory))
+    → fetch (pixels bytes combine (λ i. d + place i) fetch n memory) n ≡ own l n) where
+  part-run : (n : ℕ) → n ≤ width
+      → pixels bytes combine (λ i. d + place i) fetch n memory
+      ≡ take d memory ++ (pixels bytes combine place own n (take k (drop d memory)) ++ drop k (drop d memory))
+  unfolding pixels
+  part-run zero h = sym (put-same d k memory)
+  part-run (suc n) h =
+      let p : List ℕ = take d memory in
+      let q : List ℕ = drop k (drop d memory) in
+      let m : List ℕ = pixels bytes combine (λ i. d + place i) fetch n memory in
+      let l : List ℕ = pixels bytes combine place own n (take k (drop d memory)) in
+      let ih : m ≡ p ++ (l ++ q) = part-run n (omega arith) in
+      let cut : length (take k (drop d memory)) ≡ k = simp (length-take, length-drop) (omega arith) in
+      let len : length l ≡ k = length-pixels bytes combine place own n (take k (drop d memory)) ∙ cut in
+      let fit : place n + bytes ≤ length l = omega (arith, fits n h) in
+      let at : length p ≡ d = simp length-take (omega arith) in
+      let here : d + place n ≡ length p + place n = omega arith in
+      let v : ℕ = combine (own l n) (getPixel bytes l (place n)) in
+      let e : combine (fetch m n) (getPixel bytes m (d + place n)) ≡ v =
+      ap₂ combine (same n l h len ih) (ap₂ (getPixel bytes) ih here ∙ get-part bytes p l q (place n) fit) in
+      ap (putPixel bytes m (d + place n)) e
+      ∙ ap₂ (λ (x : List ℕ) (y : ℕ). putPixel bytes x y v) ih here
+      ∙ put-part bytes p l q (place n) v fit
+
+  part-back : (l′ : List ℕ) → l′ ≡ pixels bytes combine place own width (take k (drop d memory))
+      → take d memory ++ (l′ ++ drop k (drop d memory)) ≡ pixels bytes combine (λ i. d + place i) fetch width memory
+  part-back l′ e = ap (λ (x : List ℕ). take d memory ++ (x ++ drop k (drop d memory))) e ∙ sym (part-run width (omega arith))
 
 -- what the worker is given as its source: before the lag the source line has what the chip would fetch, from the lag on the
 -- chip fetches the line's own pixel
 pub record Sourced (down : Bool) (bytes width d lag code : ℕ) (fetch : List ℕ → ℕ → ℕ) (source memory : List ℕ) : Type 0 where
   pub early : (n : ℕ) → n < width → n < lag
-      → fetch (pixels bytes (raster (8 * bytes) code) (λ i. d + spot down bytes width i) fetch n memory) n ≡ getD source (rank down width n) 0
+      → fetch (pixels bytes (raster (8 * bytes) code) (λ i. d + spot down bytes width i) fetch n memory) n ≡ getPixel bytes source (spot down bytes width n)
   pub late : (m : List ℕ) (n : ℕ) → n < width → lag ≤ n → fetch m n ≡ getPixel bytes m (d + spot down bytes width (n - lag))
 
-module _ (down : Bool) (bytes width d lag code : ℕ) (fetch : List ℕ → ℕ → ℕ) (source p l q : List ℕ) (len : length l ≡ width * bytes)
-    (at : length p ≡ d) (sourced : Sourced down bytes width d lag code fetch source (p ++ (l ++ q))) where
-  abbrev place : ℕ → ℕ
-  place i = d + spot down bytes width i
-
-  abbrev chip : ℕ → List ℕ
-  chip n = pixels bytes (raster (8 * bytes) code) place fetch n (p ++ (l ++ q))
-
-  here : (i : ℕ) → place i ≡ length p + spot down bytes width i
-  here i = omega arith
-
-  fetched : (n : ℕ) → n < width → (l′ : List ℕ) → chip n ≡ p ++ (l′ ++ q) → length l′ ≡ width * bytes
-      → fetch (chip n) n ≡ lagged down bytes width source lag l′ n
+module _ (down : Bool) (bytes width d k lag code : ℕ) (fetch : List ℕ → ℕ → ℕ) (source memory : List ℕ) (size : k ≡ width * bytes)
+    (room : d + width * bytes ≤ length memory) (sourced : Sourced down bytes width d lag code fetch source memory) where
+  fetched : (n : ℕ) (l : List ℕ) → n < width → length l ≡ k
+      → pixels bytes (raster (8 * bytes) code) (λ i. d + spot down bytes width i) fetch n memory ≡ take d memory ++ (l ++ drop k (drop d memory))
+      → fetch (pixels bytes (raster (8 * bytes) code) (λ i. d + spot down bytes width i) fetch n memory) n ≡ lagged down bytes width source lag l n
   unfolding lagged
-  fetched n h l′ el len′ =
+  fetched n l h len e =
+      let at : length (take d memory) ≡ d = simp length-take (omega arith) in
+      let here : d + spot down bytes width (n - lag) ≡ length (take d memory) + spot down bytes width (n - lag) = omega arith in
       ⊎-elim
-      (λ e. rw (lt-ltb n lag e) (sourced .early n h e))
-      (λ e.
-      rw (le-ltb n lag e)
-      (sourced .late (chip n) n h e
-      ∙ ap₂ (getPixel bytes) el (here (n - lag))
-      ∙ get-part bytes p l′ q (spot down bytes width (n - lag)) (omega (arith, spot-fits down bytes width (n - lag) (omega arith)))))
+      (λ p. rw (lt-ltb n lag p) (sourced .early n h p))
+      (λ p.
+      rw (le-ltb n lag p)
+      (sourced .late _ n h p
+      ∙ ap₂ (getPixel bytes) e here
+      ∙ get-part bytes (take d memory) l _ (spot down bytes width (n - lag)) (omega (arith, spot-fits down bytes width (n - lag) (omega arith)))))
       (below-or-not n lag)
 
-  work-is-chip : (n : ℕ) → n ≤ width → chip n ≡ p ++ (workLine down bytes width code source lag n l ++ q)
-  unfolding workLine pixels
-  work-is-chip zero h = refl
-  work-is-chip (suc n) h =
-      let l′ : List ℕ = workLine down bytes width code source lag n l in
-      let ih : chip n ≡ p ++ (l′ ++ q) = work-is-chip n (omega arith) in
-      let len′ : length l′ ≡ width * bytes =
-      length-pixels bytes (raster (8 * bytes) code) (spot down bytes width) (lagged down bytes width source lag) n l ∙ len in
-      let room : spot down bytes width n + bytes ≤ length l′ = omega (arith, spot-fits down bytes width n h) in
-      let v : ℕ = raster (8 * bytes) code (lagged down bytes width source lag l′ n) (getPixel bytes l′ (spot down bytes width n)) in
-      let e : raster (8 * bytes) code (fetch (chip n) n) (getPixel bytes (chip n) (place n)) ≡ v =
-      ap₂ (raster (8 * bytes) code) (fetched n h l′ ih len′)
-      (ap₂ (getPixel bytes) ih (here n) ∙ get-part bytes p l′ q (spot down bytes width n) room) in
-      ap (putPixel bytes (chip n) (place n)) e
-      ∙ ap₂ (λ (x : List ℕ) (y : ℕ). putPixel bytes x y v) ih (here n)
-      ∙ put-part bytes p l′ q (spot down bytes width n) v room
+  pub put-back : (l′ : List ℕ) → l′ ≡ workLine down bytes width code source lag width (take k (drop d memory))
+      → take d memory ++ (l′ ++ drop k (drop d memory))
+      ≡ pixels bytes (raster (8 * bytes) code) (λ i. d + spot down bytes width i) fetch width memory
+  unfolding workLine
+  put-back l′ e =
+      part-back bytes (raster (8 * bytes) code) (spot down bytes width) fetch (lagged down bytes width source lag) width d k memory
+      (omega arith) (λ n h. omega (arith, spot-fits down bytes width n h)) fetched l′ e
 
-pub put-back : (down : Bool) (bytes width d k lag code : ℕ) (fetch : List ℕ → ℕ → ℕ) (source memory l′ : List ℕ)
-    → k ≡ width * bytes → d + width * bytes ≤ length memory → Sourced down bytes width d lag code fetch source memory
-    → l′ ≡ workLine down bytes width code source lag width (take k (drop d memory))
-    → take d memory ++ (l′ ++ drop k (drop d memory))
-    ≡ pixels bytes (raster (8 * bytes) code) (λ i. d + spot down bytes width i) fetch width memory
-put-back down bytes width d k lag code fetch source memory l′ ek room sourced e =
-    let p : List ℕ = take d memory in
-    let l : List ℕ = take k (drop d memory) in
-    let q : List ℕ = drop k (drop d memory) in
-    let back : p ++ (l ++ q) ≡ memory = put-same d k memory in
-    let len : length l ≡ width * bytes = simp (length-take, length-drop) (omega arith) in
-    let at : length p ≡ d = simp length-take (omega arith) in
-    ap (λ (x : List ℕ). p ++ (x ++ q)) e
-    ∙ sym (work-is-chip down bytes width d lag code fetch source p l q len at (rw back sourced) width (omega arith))
-    ∙ ap (pixels bytes (raster (8 * bytes) code) (λ i. d + spot down bytes width i) fetch width) back
+-- a line of one colour, put back
+pub fill-put-back : (bytes width d k colour : ℕ) (memory l′ : List ℕ) → k ≡ width * bytes → d + width * bytes ≤ length memory
+    → l′ ≡ straightLine bytes (λ s d. s) (λ i. colour) width (take k (drop d memory))
+    → take d memory ++ (l′ ++ drop k (drop d memory)) ≡ pixels bytes (λ s d. s) (λ i. d + i * bytes) (λ m i. colour) width memory
+unfolding straightLine
+fill-put-back bytes width d k colour memory l′ size room e =
+    part-back bytes (λ s d. s) (λ i. i * bytes) (λ m i. colour) (λ m i. colour) width d k memory
+    (omega arith) (λ n h. omega (arith, step-fits bytes n width h)) (λ n l h len p. refl) l′ e
+
+-- the same at the start of a list
+pub fill-start : (bytes width k colour : ℕ) (old l′ : List ℕ) → k ≡ width * bytes → width * bytes ≤ length old
+    → l′ ≡ straightLine bytes (λ s d. s) (λ i. colour) width (take k old)
+    → l′ ++ drop k old ≡ straightLine bytes (λ s d. s) (λ i. colour) width old
+unfolding straightLine
+fill-start bytes width k colour old l′ size room e =
+    fill-put-back bytes width 0 k colour old l′ size (omega arith) e
+    ∙ pixels-ext bytes (λ s d. s) (λ i. 0 + i * bytes) (λ i. i * bytes) (λ m i. colour) (λ m i. colour) width old
+    (λ i h. zero-add (i * bytes)) (λ m i h. refl)
 
 -- ---- a source that is known before
 
 pub sourced-given : (down : Bool) (bytes width d lag code : ℕ) (f : ℕ → ℕ) (source memory : List ℕ) → width ≤ lag
-    → ((n : ℕ) → n < width → getD source (rank down width n) 0 ≡ f n)
+    → ((n : ℕ) → n < width → getPixel bytes source (spot down bytes width n) ≡ f n)
     → Sourced down bytes width d lag code (λ m i. f i) source memory
 sourced-given down bytes width d lag code f source memory le read =
     record { early = λ n h e. sym (read n h); late = λ m n h e. absurd (omega arith) }
 
--- a line of one colour is a line of the worker
-pub fill-work : (bytes width colour : ℕ) (line : List ℕ)
-    → straightLine bytes (λ s d. s) (λ i. colour) width line ≡ workLine false bytes width 0xC (replicate width colour) width width line
-unfolding straightLine
-fill-work bytes width colour line =
-    store-is-code bytes (λ i. i * bytes) (λ m i. colour) width line
-    ∙ pixels-ext bytes (raster (8 * bytes) 0xC) (λ i. i * bytes) (λ i. i * bytes) (λ m i. colour) (λ m i. getD (replicate width colour) i 0) width line
-    (λ i h. refl) (λ m i h. sym (getD-replicate width i colour 0 h))
-    ∙ straight-work bytes width 0xC (replicate width colour) false width line (omega arith)
+-- ---- a source line of one colour
+
+-- a pixel of it is the colour, cut to the bytes of a pixel
+pub filled-pixel : (bytes colour n : ℕ) (old : List ℕ) (k : ℕ) → k < n → n * bytes ≤ length old
+    → getPixel bytes (straightLine bytes (λ s d. s) (λ i. colour) n old) (k * bytes) ≡ colour % 256 ^ bytes
+unfolding straightLine pixels
+filled-pixel bytes colour zero old k h room = absurd (omega arith)
+filled-pixel bytes colour (suc n) old k h room =
+    let m : List ℕ = straightLine bytes (λ s d. s) (λ i. colour) n old in
+    let more : suc n * bytes ≡ n * bytes + bytes = suc-mul n bytes in
+    ⊎-elim
+    (λ p. get-put-below bytes bytes m (n * bytes) colour (k * bytes) (step-fits bytes k n p) ∙ filled-pixel bytes colour n old k p (omega arith))
+    (λ p.
+    let e : k ≡ n = omega arith in
+    let len : length m ≡ length old = length-pixels bytes (λ s d. s) (λ i. i * bytes) (λ x i. colour) n old in
+    rw e (get-put bytes m (n * bytes) colour (omega arith)))
+    (below-or-not k n)
+
+-- of the source n bits count
+raster-rest : (n c s d : ℕ) → raster n c (s % 2 ^ n) d ≡ raster n c s d
+unfolding bitwise
+raster-rest zero c s d = refl
+raster-rest (suc n) c s d =
+    let parts : s % 2 ^ suc n ≡ s / 2 % 2 ^ n * 2 + s % 2 = ap (λ (p : ℕ). s % p) (pow-suc 2 n) ∙ mod-mul s (pow-pos n) (lit< tt) in
+    let low : s % 2 < 2 = mod-lt s (lit< tt) in
+    ap₂ (λ (x y : ℕ). raster n c x (d / 2) * 2 + bit c (2 * y + d % 2))
+    (ap (λ (x : ℕ). x / 2) parts ∙ digits-div (s / 2 % 2 ^ n) low)
+    (ap (λ (x : ℕ). x % 2) parts ∙ digits-mod (s / 2 % 2 ^ n) low)
+    ∙ ap (λ (x : ℕ). x * 2 + bit c (2 * (s % 2) + d % 2)) (raster-rest n c (s / 2) (d / 2))
+
+-- so the colour may be cut
+pub cut-colour : (bytes code colour : ℕ) (place : ℕ → ℕ) (n : ℕ) (m : List ℕ)
+    → pixels bytes (raster (8 * bytes) code) place (λ x i. colour % 256 ^ bytes) n m ≡ pixels bytes (raster (8 * bytes) code) place (λ x i. colour) n m
+unfolding pixels
+cut-colour bytes code colour place zero m = refl
+cut-colour bytes code colour place (suc n) m =
+    let x : List ℕ = pixels bytes (raster (8 * bytes) code) place (λ y i. colour) n m in
+    ap (λ (y : List ℕ). putPixel bytes y (place n) (raster (8 * bytes) code (colour % 256 ^ bytes) (getPixel bytes y (place n)))) (cut-colour bytes code colour place n m)
+    ∙ ap (putPixel bytes x (place n))
+    (ap (λ (p : ℕ). raster (8 * bytes) code (colour % p) (getPixel bytes x (place n))) (sym (pow-bytes bytes))
+    ∙ raster-rest (8 * bytes) code colour (getPixel bytes x (place n)))
 
 -- ---- a move's source
 
@@ -180,9 +238,9 @@ lag-fits true bytes width s d h es ed =
     (below-or-not d s)
 
 pub sourced-move : (down : Bool) (bytes width s d code : ℕ) (old memory : List ℕ) → 0 < bytes → s % bytes ≡ 0 → d % bytes ≡ 0
-    → width ≤ length old
+    → width * bytes ≤ length old
     → Sourced down bytes width d (lagOf down bytes width s d) code (λ m i. getPixel bytes m (s + spot down bytes width i))
-    (readLine bytes memory s width old) memory
+    (copied memory s (width * bytes) old) memory
 sourced-move down bytes width s d code old memory h es ed room =
     let lags = lag-fits down bytes width s d h es ed in
     record {
@@ -191,6 +249,6 @@ sourced-move down bytes width s d code old memory h es ed room =
           (λ x lo hi.
           keep-pixels bytes (raster (8 * bytes) code) (λ i. d + spot down bytes width i) (λ m i. getPixel bytes m (s + spot down bytes width i)) n memory x
           (λ i hi′. ⊎-elim (λ z. inl (omega arith)) (λ z. inr (omega arith)) (lags .early n i hn e hi′)))
-          ∙ sym (read-at bytes memory s width old (rank down width n) (rank-lt down width n hn) room);
+          ∙ sym (copied-pixel memory s bytes (width * bytes) old (spot down bytes width n) (spot-fits down bytes width n hn) room);
       late = λ m n hn e. ap (getPixel bytes m) (lags .late n hn e);
     }

@@ -2,16 +2,16 @@
 use mathlib.Core.Path.{_≡_, refl, sym, ap, ap₂, _∙_, subst}
 use mathlib.Core.Bool.{Bool, true, false}
 use mathlib.Core.List.{List, _++_}
-use Prim.Native.Nat.{ℕ, suc, _+_, _-_, _*_, _/_, _%_, _≤_, _<_}
+use Prim.Native.Nat.{ℕ, suc, _+_, _-_, _*_, _/_, _%_, _^_, _≤_, _<_}
 use native.Mathlib.Nat.{add-mul, dvd-add, dvd-mul-left, dvd-mul-left-of-dvd, dvd-of-mod-eq-zero, dvd-refl, dvd-sub, mod-eq-zero-of-dvd, mul-le-mul, mul-le-mul-right, suc-mul}
 use native.Mathlib.Omega.{arith}
 use borrow.Author.Tests.{lt-ltb, le-ltb}
-use lib.ListN.{length, getD, take, drop, replicate, getD-replicate}
+use lib.ListN.{length, take, drop}
 use Rattle.pixel.specs.Pixel.{getPixel}
 use Rattle.pixel.specs.Raster.{raster}
 use Rattle.blit.specs.Blit.{Direction, towards, along, sourcePixel, pixels, chipLine, chipLines, chipBlit}
 use Rattle.blit_code.specs.Job.{mixOf, sourceOf, blitOf, LineIn, SourceIn, JobOk}
-use Rattle.blit_line.specs.Line.{rank, spot, workLine, straightLine, readLine}
+use Rattle.blit_line.specs.Line.{rank, spot, workLine, straightLine, copied}
 use Rattle.blit_code.specs.Lines.{codeOf, lagOf, lowEnd, AboveZero}
 use Rattle.blit_code.specs.declared.Mix.the-variants.{Store}
 use Rattle.blit_code.specs.declared.From.{From}
@@ -19,7 +19,8 @@ use Rattle.blit_code.specs.declared.From.the-variants.{Colour, Memory}
 use Rattle.blit_code.specs.declared.Job.{Job}
 use Rattle.blit.proofs.Runs.{pixels-ext}
 use Rattle.blit_line.proofs.Worker.{rank-lt}
-use Rattle.blit_code.proofs.Lift.{mix-is-code, put-back, sourced-given, sourced-move, fill-work}
+use Rattle.blit_line.proofs.Straight.{store-is-code}
+use Rattle.blit_code.proofs.Lift.{cut-colour, fill-put-back, filled-pixel, mix-is-code, put-back, sourced-given, sourced-move}
 
 -- ---- lags
 
@@ -158,41 +159,52 @@ of-memory : (from : From) (s bytes n i j a : ℕ) (dir : Direction) (x : List �
     → getPixel bytes x a ≡ sourcePixel bytes dir x (sourceOf from) n i j
 of-memory from s bytes n i j a dir x e h = sym (ap (getPixel bytes x) h) ∙ ap (λ (y : From). sourcePixel bytes dir x (sourceOf y) n i j) (sym e)
 
--- a line of one colour that the worker drew, put back
-pub colour-back : (job : Job) (memory : List ℕ) → JobOk (length memory) job → (j c d k lag code : ℕ) (source l′ : List ℕ) → j < job .height
-    → job .from ≡ Colour c → d ≡ low job (job .destination) j → k ≡ job .width * job .bytes → code ≡ codeOf (job .mix) → job .width ≤ lag
-    → ((n : ℕ) → n < job .width → getD source n 0 ≡ c)
-    → l′ ≡ workLine (job .down) (job .bytes) (job .width) code source lag (job .width) (take k (drop d memory))
-    → take d memory ++ (l′ ++ drop k (drop d memory)) ≡ chipLine (blitOf job) (towards (job .down)) j (job .width) memory
-colour-back job memory ok j c d k lag code source l′ hj ef ed ek ec el read e =
-    let p = to-line (length memory) job ok j hj in
-    put-back (job .down) (job .bytes) (job .width) d k lag code (λ m i. c) source memory l′ ek
-    (to-room (length memory) job ok j d hj ed)
-    (sourced-given (job .down) (job .bytes) (job .width) d lag code (λ i. c) source memory el
-    (λ n h. read (rank (job .down) (job .width) n) (rank-lt (job .down) (job .width) n h)))
-    e
-    ∙ ap₂ (λ (x y : ℕ).
+-- a line of one colour
+chip-colour : (job : Job) (memory : List ℕ) → JobOk (length memory) job → (j c d code : ℕ) → j < job .height → job .from ≡ Colour c
+    → d ≡ low job (job .destination) j → code ≡ codeOf (job .mix)
+    → pixels (job .bytes) (raster (8 * job .bytes) code) (λ i. d + spot (job .down) (job .bytes) (job .width) i) (λ m i. c) (job .width) memory
+    ≡ chipLine (blitOf job) (towards (job .down)) j (job .width) memory
+chip-colour job memory ok j c d code hj ef ed ec =
+    ap₂ (λ (x y : ℕ).
     pixels (job .bytes) (raster (8 * job .bytes) x) (λ i. y + spot (job .down) (job .bytes) (job .width) i) (λ m i. c) (job .width) memory) ec ed
-    ∙ chip-line job j (length memory) (λ m i. c) memory p
+    ∙ chip-line job j (length memory) (λ m i. c) memory (to-line (length memory) job ok j hj)
     (λ x i h. of-colour (job .from) c (job .bytes) (j * job .line + i * job .bytes) i j (towards (job .down)) x ef)
 
--- a line of a fill
+-- that the worker drew from a source line of the colour
+pub colour-back : (job : Job) (memory : List ℕ) → JobOk (length memory) job → (j c d k lag code : ℕ) (old source l′ : List ℕ) → j < job .height
+    → job .from ≡ Colour c → d ≡ low job (job .destination) j → k ≡ job .width * job .bytes → code ≡ codeOf (job .mix) → job .width ≤ lag
+    → job .width * job .bytes ≤ length old → source ≡ straightLine (job .bytes) (λ s d. s) (λ i. c) (job .width) old
+    → l′ ≡ workLine (job .down) (job .bytes) (job .width) code source lag (job .width) (take k (drop d memory))
+    → take d memory ++ (l′ ++ drop k (drop d memory)) ≡ chipLine (blitOf job) (towards (job .down)) j (job .width) memory
+colour-back job memory ok j c d k lag code old source l′ hj ef ed ek ec el room es e =
+    put-back (job .down) (job .bytes) (job .width) d k lag code (λ m i. c % 256 ^ job .bytes) source memory ek
+    (to-room (length memory) job ok j d hj ed)
+    (sourced-given (job .down) (job .bytes) (job .width) d lag code (λ i. c % 256 ^ job .bytes) source memory el
+    (λ n h.
+    ap (λ (x : List ℕ). getPixel (job .bytes) x (spot (job .down) (job .bytes) (job .width) n)) es
+    ∙ filled-pixel (job .bytes) c (job .width) old (rank (job .down) (job .width) n) (rank-lt (job .down) (job .width) n h) room))
+    l′ e
+    ∙ cut-colour (job .bytes) code c (λ i. d + spot (job .down) (job .bytes) (job .width) i) (job .width) memory
+    ∙ chip-colour job memory ok j c d code hj ef ed ec
+
+-- that a fill drew
 pub fill-back : (job : Job) (memory : List ℕ) → JobOk (length memory) job → (j c d k : ℕ) (l′ : List ℕ) → j < job .height
     → job .from ≡ Colour c → d ≡ low job (job .destination) j → k ≡ job .width * job .bytes → job .mix ≡ Store
     → l′ ≡ straightLine (job .bytes) (λ s d. s) (λ i. c) (job .width) (take k (drop d memory))
     → take d memory ++ (l′ ++ drop k (drop d memory)) ≡ chipLine (blitOf job) (towards (job .down)) j (job .width) memory
+unfolding rank
 fill-back job memory ok j c d k l′ hj ef ed ek em e =
-    colour-back job memory ok j c d k (job .width) 0xC (replicate (job .width) c) l′ hj ef ed ek (ap codeOf (sym em)) (omega arith)
-    (λ n h. getD-replicate (job .width) n c 0 h)
-    (e ∙ fill-work (job .bytes) (job .width) c (take k (drop d memory))
-    ∙ ap (λ (x : Bool). workLine x (job .bytes) (job .width) 0xC (replicate (job .width) c) (job .width) (job .width) (take k (drop d memory)))
-    (sym (goes-up (length memory) job ok c ef)))
+    fill-put-back (job .bytes) (job .width) d k c memory l′ ek (to-room (length memory) job ok j d hj ed) e
+    ∙ store-is-code (job .bytes) (λ i. d + i * job .bytes) (λ m i. c) (job .width) memory
+    ∙ ap (λ (t : Bool). pixels (job .bytes) (raster (8 * job .bytes) 0xC) (λ i. d + spot t (job .bytes) (job .width) i) (λ m i. c) (job .width) memory)
+    (sym (goes-up (length memory) job ok c ef))
+    ∙ chip-colour job memory ok j c d 0xC hj ef ed (ap codeOf (sym em))
 
 -- a line of a move
 pub move-back : (job : Job) (memory : List ℕ) → JobOk (length memory) job → (j a s d k lag code : ℕ) (old source l′ : List ℕ) → j < job .height
     → job .from ≡ Memory a → s ≡ low job a j → d ≡ low job (job .destination) j → k ≡ job .width * job .bytes → code ≡ codeOf (job .mix)
-    → lag ≡ lagOf (job .down) (job .bytes) (job .width) s d → job .width ≤ length old
-    → source ≡ readLine (job .bytes) memory s (job .width) old
+    → lag ≡ lagOf (job .down) (job .bytes) (job .width) s d → job .width * job .bytes ≤ length old
+    → source ≡ copied memory s (job .width * job .bytes) old
     → l′ ≡ workLine (job .down) (job .bytes) (job .width) code source lag (job .width) (take k (drop d memory))
     → take d memory ++ (l′ ++ drop k (drop d memory)) ≡ chipLine (blitOf job) (towards (job .down)) j (job .width) memory
 move-back job memory ok j a s d k lag code old source l′ hj ef es ed ek ec el room er e =
@@ -203,9 +215,10 @@ move-back job memory ok j a s d k lag code old source l′ hj ef es ed ek ec el 
     let even-d : d % job .bytes ≡ 0 =
     rw ed (low-even (job .down) (job .bytes) (job .line) (job .width) (job .destination) j (ok .even) (ok .even-line)) in
     put-back (job .down) (job .bytes) (job .width) d k (lagOf (job .down) (job .bytes) (job .width) s d) code
-    (λ m i. getPixel (job .bytes) m (s + spot (job .down) (job .bytes) (job .width) i)) (readLine (job .bytes) memory s (job .width) old) memory l′ ek
+    (λ m i. getPixel (job .bytes) m (s + spot (job .down) (job .bytes) (job .width) i)) (copied memory s (job .width * job .bytes) old) memory ek
     (to-room (length memory) job ok j d hj ed)
     (sourced-move (job .down) (job .bytes) (job .width) s d code old memory (ok .some-bytes) even-s even-d room)
+    l′
     (e ∙ ap₂ (λ (x : List ℕ) (y : ℕ). workLine (job .down) (job .bytes) (job .width) code x y (job .width) (take k (drop d memory))) er el)
     ∙ ap₂ (λ (x y : ℕ).
     pixels (job .bytes) (raster (8 * job .bytes) x) (λ i. y + spot (job .down) (job .bytes) (job .width) i)

@@ -1,12 +1,12 @@
 // The blit engine: fills, moves and host words over a lent memory, line by line.
 ghost use mathlib.Core.Path.{_≡_};
 ghost use mathlib.Core.List.{[], _∷_};
-ghost use Prim.Native.Nat.{_+_, _*_, _≤_, _<_};
+ghost use Prim.Native.Nat.{_+_, _*_, _/_, _%_, _≤_, _<_};
 ghost use lib.ListN.{length, replicate};
 ghost use Rattle.blit.specs.Blit.{pixels, chipLine, chipBlit, towards};
 ghost use Rattle.blit.specs.Words.{perWord, wordPixel};
 ghost use Rattle.blit_code.specs.Job.{mixOf, blitOf, JobOk};
-ghost use Rattle.blit_line.specs.Line.{readLine};
+ghost use Rattle.blit_line.specs.Line.{straightLine, copied};
 ghost use Rattle.blit_code.specs.Lines.{codeOf, lagOf, lowEnd, AboveZero};
 ghost use Rattle.blit_code.specs.declared.From.the-variants.{Colour, Memory};
 
@@ -74,10 +74,14 @@ fn low_end(down: bool, bytes: usize, line: usize, width: usize, at: u32, j: usiz
 }
 
 // A source line of one colour.
-fn same_pixels(colour: u16) -> [u16; 1024]
-    ensures { λ r. ⌜ r ≡ replicate 1024 colour ⌝ }
+fn colour_source(bytes: usize, width: usize, colour: u16) -> [u8; 2048]
+    requires { ⌜ (0 < bytes) × (bytes ≤ 2) × (width ≤ 1024) ⌝ }
+    ensures { λ r. ⌜ r ≡ straightLine bytes (λ s d. s) (λ i. colour) width (replicate 2048 0) ⌝ }
 {
-    [colour; 1024]
+    let mut source = [0u8; 2048];
+    let size = width * bytes;
+    blit_line::fill_worker(&mut source[..size], bytes, width, colour);
+    source
 }
 
 // Line j of a blit of one colour.
@@ -91,8 +95,8 @@ fn colour_line(job: Job, j: usize, colour: u16, memory: &mut [u8])
     match mix {
         Mix::Store => blit_line::fill_worker(&mut memory[d..e], job.bytes, job.width, colour),
         Mix::Raster(code) => {
-            let source = same_pixels(colour);
-            blit_line::line_worker(
+            let source = colour_source(job.bytes, job.width, colour);
+            blit_line::pixel_worker(
                 &mut memory[d..e],
                 job.down,
                 job.bytes,
@@ -106,18 +110,19 @@ fn colour_line(job: Job, j: usize, colour: u16, memory: &mut [u8])
 }
 
 // Line j of a move from an address; source is room for its source line.
-fn move_line(job: Job, j: usize, from: u32, source: &mut [u16], memory: &mut [u8])
-    requires { ⌜ JobOk (length (now memory)) job × (j < job .height) × (job .from ≡ Memory from) × (1024 ≤ length (now source)) ⌝ }
+fn move_line(job: Job, j: usize, from: u32, source: &mut [u8], memory: &mut [u8])
+    requires { ⌜ JobOk (length (now memory)) job × (j < job .height) × (job .from ≡ Memory from) × (2048 ≤ length (now source)) ⌝ }
     ensures { λ _. ⌜ now (memory .exit) ≡ chipLine (blitOf job) (towards (job .down)) j (job .width) (now (memory .entry)) ⌝ }
-    ensures { λ _. ⌜ now (source .exit) ≡ readLine (job .bytes) (now (memory .entry)) (lowEnd (job .down) (job .bytes) (job .line) (job .width) from j) (job .width) (now (source .entry)) ⌝ }
+    ensures { λ _. ⌜ now (source .exit) ≡ copied (now (memory .entry)) (lowEnd (job .down) (job .bytes) (job .line) (job .width) from j) (job .width * job .bytes) (now (source .entry)) ⌝ }
 {
     let s = low_end(job.down, job.bytes, job.line, job.width, from, j);
     let d = low_end(job.down, job.bytes, job.line, job.width, job.destination, j);
-    blit_line::read_line(memory, job.bytes, job.width, s, source);
+    let size = job.width * job.bytes;
+    blit_line::copy_bytes(memory, s, size, source);
     let lag = lag_of(job.down, job.bytes, job.width, s, d);
     let mix = job.mix;
     let code = code_of(mix);
-    let e = d + job.width * job.bytes;
+    let e = d + size;
     blit_line::line_worker(
         &mut memory[d..e],
         job.down,
@@ -146,7 +151,7 @@ fn move_lines(job: Job, from: u32, memory: &mut [u8])
     requires { ⌜ JobOk (length (now memory)) job × (job .from ≡ Memory from) ⌝ }
     ensures { λ _. ⌜ now (memory .exit) ≡ chipBlit (blitOf job) (towards (job .down)) (now (memory .entry)) ⌝ }
 {
-    let mut source = same_pixels(0);
+    let mut source = [0u8; 2048];
     let mut j = 0;
     while j < job.height {
         move_line(job, j, from, &mut source, memory);
@@ -166,15 +171,11 @@ pub fn perform(job: Job, memory: &mut [u8])
     }
 }
 
-// The pixels of a host word, the low byte first.
-fn word_pixels(bytes: usize, word: u16) -> [u16; 2]
-    requires { ⌜ (0 < bytes) × (bytes ≤ 2) ⌝ }
-    ensures { λ r. ⌜ r ≡ wordPixel bytes word 0 ∷ wordPixel bytes word 1 ∷ [] ⌝ }
+// The two bytes of a host word, the low one first.
+fn word_bytes(word: u16) -> [u8; 2]
+    ensures { λ r. ⌜ r ≡ word % 256 ∷ word / 256 ∷ [] ⌝ }
 {
-    if bytes == 1 {
-        return [word % 256, word / 256];
-    }
-    [word, 0]
+    [(word % 256) as u8, (word / 256) as u8]
 }
 
 // The first pixels of a host word, drawn from an address on.
@@ -182,7 +183,7 @@ pub fn put_word(bytes: usize, mix: Mix, at: usize, count: usize, word: u16, memo
     requires { ⌜ (0 < bytes) × (bytes ≤ 2) × (count ≤ perWord bytes) × (at + count * bytes ≤ length (now memory)) ⌝ }
     ensures { λ _. ⌜ now (memory .exit) ≡ pixels bytes (mixOf mix bytes) (λ i. at + i * bytes) (λ m i. wordPixel bytes word i) count (now (memory .entry)) ⌝ }
 {
-    let source = word_pixels(bytes, word);
+    let source = word_bytes(word);
     let code = code_of(mix);
     let e = at + count * bytes;
     blit_line::line_worker(

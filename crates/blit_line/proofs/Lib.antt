@@ -1,3 +1,3 @@
 pub mod Worker
 pub mod Straight
-pub mod Read
+pub mod Copy

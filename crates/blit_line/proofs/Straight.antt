@@ -16,8 +16,9 @@ use Rattle.pixel.specs.Raster.{raster}
 use Rattle.pixel.proofs.Pixels.{get-put-above, get-put-below}
 use Rattle.pixel.proofs.Raster.{copies}
 use Rattle.blit.specs.Blit.{pixels}
-use Rattle.blit_line.specs.Line.{rank, spot, lagged, workLine, straightLine}
+use Rattle.blit_line.specs.Line.{rank, spot, lagged, workLine, straightLine, copied}
 use Rattle.blit.proofs.Runs.{pixels-append, pixels-ext, step-fits}
+use Rattle.blit_line.proofs.Copy.{straight-copied}
 
 -- ---- pixels apart may be stored in either order
 
@@ -95,32 +96,33 @@ module _ (bytes : ℕ) (combine : ℕ → ℕ → ℕ) where
       ∙ ap (λ (k : ℕ). pixels bytes combine place (λ x i. f i) k m) (one-add n)
 
 module _ (bytes width code : ℕ) (source : List ℕ) where
-  early : (down : Bool) (lag : ℕ) (m : List ℕ) (i : ℕ) → i < lag → lagged down bytes width source lag m i ≡ getD source (rank down width i) 0
+  early : (down : Bool) (lag : ℕ) (m : List ℕ) (i : ℕ) → i < lag → lagged down bytes width source lag m i ≡ getPixel bytes source (spot down bytes width i)
   unfolding lagged
   early down lag m i h = rw (lt-ltb i lag h) refl
 
   either : (down : Bool) (line : List ℕ)
-      → pixels bytes (raster (8 * bytes) code) (spot down bytes width) (λ m n. getD source (rank down width n) 0) width line
-      ≡ pixels bytes (raster (8 * bytes) code) (λ i. i * bytes) (λ m i. getD source i 0) width line
+      → pixels bytes (raster (8 * bytes) code) (spot down bytes width) (λ m n. getPixel bytes source (spot down bytes width n)) width line
+      ≡ pixels bytes (raster (8 * bytes) code) (λ i. i * bytes) (λ m i. getPixel bytes source (i * bytes)) width line
   unfolding rank
   either true line =
-      reversed bytes (raster (8 * bytes) code) width (λ i. i * bytes) (λ i. getD source i 0) line (λ i k p q. step-fits bytes i k p)
+      reversed bytes (raster (8 * bytes) code) width (λ i. i * bytes) (λ i. getPixel bytes source (i * bytes)) line (λ i k p q. step-fits bytes i k p)
   either false line = refl
 
   -- a line whose lag is past its end, drawn side by side
-  pub straight-work : (down : Bool) (lag : ℕ) (line : List ℕ) → width ≤ lag
-      → straightLine bytes (raster (8 * bytes) code) (λ i. getD source i 0) width line ≡ workLine down bytes width code source lag width line
+  straight-work : (down : Bool) (lag : ℕ) (line : List ℕ) → width ≤ lag
+      → straightLine bytes (raster (8 * bytes) code) (λ i. getPixel bytes source (i * bytes)) width line
+      ≡ workLine down bytes width code source lag width line
   unfolding straightLine workLine
   straight-work down lag line h =
       sym
       (pixels-ext bytes (raster (8 * bytes) code) (spot down bytes width) (spot down bytes width) (lagged down bytes width source lag)
-      (λ m n. getD source (rank down width n) 0) width line
+      (λ m n. getPixel bytes source (spot down bytes width n)) width line
       (λ i hi. refl) (λ m i hi. early down lag m i (omega arith))
       ∙ either down line)
 
 -- ---- code Ch
 
-pow-bytes : (n : ℕ) → 2 ^ (8 * n) ≡ 256 ^ n
+pub pow-bytes : (n : ℕ) → 2 ^ (8 * n) ≡ 256 ^ n
 pow-bytes zero = refl
 pow-bytes (suc n) =
     ap (λ (x : ℕ). 2 ^ x) (mul-suc 8 n) ∙ pow-add 2 (8 * n) 8 ∙ ap (λ (x : ℕ). x * 256) (pow-bytes n) ∙ sym (pow-suc 256 n)
@@ -154,19 +156,21 @@ store-is-code bytes place fetch (suc n) m =
     (copies (8 * bytes) (fetch x n) (getPixel bytes x (place n)) ∙ ap (λ (p : ℕ). fetch x n % p) (pow-bytes bytes))
     ∙ put-rest bytes x (place n) (fetch x n))
 
--- ---- the worker's straight lines, at a number of bytes that is known by an equation
+-- ---- the worker's straight lines
 
+-- at a number of bytes that is known by an equation
 pub combine-work : (bytes n width code : ℕ) (source : List ℕ) (down : Bool) (lag : ℕ) (line l′ : List ℕ) → bytes ≡ n → width ≤ lag
-    → l′ ≡ straightLine n (raster (8 * n) code) (λ i. getD source i 0) width line
+    → l′ ≡ straightLine n (raster (8 * n) code) (λ i. getPixel n source (i * n)) width line
     → l′ ≡ workLine down bytes width code source lag width line
 combine-work bytes n width code source down lag line l′ e h p =
     p ∙ straight-work n width code source down lag line h ∙ ap (λ (k : ℕ). workLine down k width code source lag width line) (sym e)
 
-pub copy-work : (bytes n width code : ℕ) (source : List ℕ) (down : Bool) (lag : ℕ) (line l′ : List ℕ) → bytes ≡ n → code ≡ 0xC → width ≤ lag
-    → l′ ≡ straightLine n (λ s d. s) (λ i. getD source i 0) width line
-    → l′ ≡ workLine down bytes width code source lag width line
+-- code Ch copies the source's bytes
+pub copy-work : (bytes width code : ℕ) (source : List ℕ) (down : Bool) (lag : ℕ) (line l′ : List ℕ) → ((k : ℕ) → getD source k 0 < 256)
+    → code ≡ 0xC → width ≤ lag → l′ ≡ copied source 0 (width * bytes) line → l′ ≡ workLine down bytes width code source lag width line
 unfolding straightLine
-copy-work bytes n width code source down lag line l′ e ec h p =
-    combine-work bytes n width code source down lag line l′ e h
-    (p ∙ store-is-code n (λ i. i * n) (λ m i. getD source i 0) width line
-    ∙ ap (λ (c : ℕ). pixels n (raster (8 * n) c) (λ i. i * n) (λ m i. getD source i 0) width line) (sym ec))
+copy-work bytes width code source down lag line l′ small ec h p =
+    combine-work bytes bytes width code source down lag line l′ refl h
+    (p ∙ sym (straight-copied source small bytes width line)
+    ∙ store-is-code bytes (λ i. i * bytes) (λ m i. getPixel bytes source (i * bytes)) width line
+    ∙ ap (λ (c : ℕ). pixels bytes (raster (8 * bytes) c) (λ i. i * bytes) (λ m i. getPixel bytes source (i * bytes)) width line) (sym ec))

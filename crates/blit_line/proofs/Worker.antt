@@ -1,12 +1,10 @@
 -- Laws of the line worker: pixel after pixel of a lent line.
-use mathlib.Core.Path.{_≡_, refl, ap, _∙_}
-use mathlib.Core.Bool.{Bool, true, false, cond}
+use mathlib.Core.Path.{_≡_, refl, ap, ap₂, _∙_}
+use mathlib.Core.Bool.{Bool, true, false}
 use mathlib.Core.List.{List}
 use Prim.Native.Nat.{ℕ, suc, _+_, _-_, _*_, _≤_, _<_}
 use native.Mathlib.Omega.{arith}
 use borrow.Author.Tests.{lt-ltb, le-ltb}
-use lib.Dec.{ltb}
-use lib.ListN.{getD}
 use Rattle.pixel.specs.Pixel.{getPixel, putPixel}
 use Rattle.pixel.specs.Raster.{raster}
 use Rattle.blit.specs.Blit.{pixels}
@@ -38,10 +36,10 @@ module _ (bytes : ℕ) (combine : ℕ → ℕ → ℕ) (f : ℕ → ℕ) where
   unfolding straightLine pixels
   straight-none line = refl
 
-  pub straight-more : (n : ℕ) (line m : List ℕ) → m ≡ straightLine bytes combine f n line
-      → putPixel bytes m (n * bytes) (combine (f n) (getPixel bytes m (n * bytes))) ≡ straightLine bytes combine f (suc n) line
+  pub straight-more : (n : ℕ) (line m : List ℕ) (v : ℕ) → m ≡ straightLine bytes combine f n line → v ≡ f n
+      → putPixel bytes m (n * bytes) (combine v (getPixel bytes m (n * bytes))) ≡ straightLine bytes combine f (suc n) line
   unfolding straightLine pixels
-  straight-more n line m e = ap (λ (x : List ℕ). putPixel bytes x (n * bytes) (combine (f n) (getPixel bytes x (n * bytes)))) e
+  straight-more n line m v e h = ap₂ (λ (x : List ℕ) (s : ℕ). putPixel bytes x (n * bytes) (combine s (getPixel bytes x (n * bytes)))) e h
 
   pub straight-end : (n width : ℕ) (line m : List ℕ) → m ≡ straightLine bytes combine f n line → n ≡ width → m ≡ straightLine bytes combine f width line
   straight-end n width line m e h = e ∙ ap (λ (k : ℕ). straightLine bytes combine f k line) h
@@ -54,9 +52,9 @@ module _ (down : Bool) (bytes width code : ℕ) (source : List ℕ) (lag : ℕ) 
   work-none line = refl
 
   pub work-more : (n : ℕ) (line m : List ℕ) (k v : ℕ) → m ≡ workLine down bytes width code source lag n line → k ≡ rank down width n
-      → v ≡ cond (ltb n lag) (getD source k 0) (getPixel bytes m (spot down bytes width (n - lag)))
+      → v ≡ lagged down bytes width source lag m n
       → putPixel bytes m (k * bytes) (raster (8 * bytes) code v (getPixel bytes m (k * bytes))) ≡ workLine down bytes width code source lag (suc n) line
-  unfolding workLine pixels lagged
+  unfolding workLine pixels
   work-more n line m k v em ek ev =
       rw (ev, ek)
       (ap (λ (x : List ℕ).
@@ -68,9 +66,11 @@ module _ (down : Bool) (bytes width code : ℕ) (source : List ℕ) (lag : ℕ) 
   work-end n line m e h = e ∙ ap (λ (k : ℕ). workLine down bytes width code source lag k line) h
 
 -- the source of a pixel before the lag, and from it on
-pub lag-early : (n lag p q : ℕ) → n < lag → p ≡ cond (ltb n lag) p q
-lag-early n lag p q h = rw (lt-ltb n lag h) refl
+module _ (down : Bool) (bytes width : ℕ) (source : List ℕ) (lag : ℕ) (line : List ℕ) (n k v : ℕ) where
+  pub lag-early : n < lag → k ≡ rank down width n → v ≡ getPixel bytes source (k * bytes) → v ≡ lagged down bytes width source lag line n
+  unfolding lagged
+  lag-early h e g = rw (lt-ltb n lag h) (g ∙ ap (λ (x : ℕ). getPixel bytes source (x * bytes)) e)
 
-pub lag-late : (n lag p bytes : ℕ) (m : List ℕ) (k k′ r : ℕ) → lag ≤ n → k ≡ k′ → r ≡ getPixel bytes m (k * bytes)
-    → r ≡ cond (ltb n lag) p (getPixel bytes m (k′ * bytes))
-lag-late n lag p bytes m k k′ r h e g = rw (le-ltb n lag h) (g ∙ ap (λ (x : ℕ). getPixel bytes m (x * bytes)) e)
+  pub lag-late : lag ≤ n → k ≡ rank down width (n - lag) → v ≡ getPixel bytes line (k * bytes) → v ≡ lagged down bytes width source lag line n
+  unfolding lagged
+  lag-late h e g = rw (le-ltb n lag h) (g ∙ ap (λ (x : ℕ). getPixel bytes line (x * bytes)) e)

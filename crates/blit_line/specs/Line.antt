@@ -17,10 +17,11 @@ rank false width n = n
 abbrev pub spot : Bool → ℕ → ℕ → ℕ → ℕ
 spot down bytes width n = rank down width n * bytes
 
--- the source of the n-th drawn pixel: read before the line, or, from the lag on, the line's own pixel that many pixels back
+-- the source of the n-th drawn pixel: the source line's pixel at its place, or, from the lag on, the line's own pixel that many
+-- pixels back
 unfoldable pub lagged : Bool → ℕ → ℕ → List ℕ → ℕ → List ℕ → ℕ → ℕ
 lagged down bytes width source lag line n =
-    cond (ltb n lag) (getD source (rank down width n) 0) (getPixel bytes line (spot down bytes width (n - lag)))
+    cond (ltb n lag) (getPixel bytes source (spot down bytes width n)) (getPixel bytes line (spot down bytes width (n - lag)))
 
 -- the first n pixels of the line under a raster code
 unfoldable pub workLine : Bool → ℕ → ℕ → ℕ → List ℕ → ℕ → ℕ → List ℕ → List ℕ
@@ -31,7 +32,7 @@ workLine down bytes width code source lag n line =
 unfoldable pub straightLine : ℕ → (ℕ → ℕ → ℕ) → (ℕ → ℕ) → ℕ → List ℕ → List ℕ
 straightLine bytes combine f n line = pixels bytes combine (λ i. i * bytes) (λ m i. f i) n line
 
--- the source line once its first n pixels are read, the first at address a
-unfoldable pub readLine : ℕ → List ℕ → ℕ → ℕ → List ℕ → List ℕ
-readLine bytes memory a zero old = old
-readLine bytes memory a (suc n) old = set (readLine bytes memory a n old) n (getPixel bytes memory (a + n * bytes))
+-- old with its first n bytes from those of `from` from address a on
+unfoldable pub copied : List ℕ → ℕ → ℕ → List ℕ → List ℕ
+copied from a zero old = old
+copied from a (suc n) old = set (copied from a n old) n (getD from (a + n) 0)

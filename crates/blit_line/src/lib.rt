@@ -1,12 +1,10 @@
-// One line of a blit: a source line read, and a destination line, lent alone, drawn in the direction named.
+// One line of a blit: a source line copied, and a destination line, lent alone, drawn in the direction named.
 ghost use mathlib.Core.Path.{_≡_};
-ghost use mathlib.Core.Bool.{cond};
-ghost use Prim.Native.Nat.{_+_, _-_, _*_, _≤_, _<_};
-ghost use lib.Dec.{ltb};
-ghost use lib.ListN.{length, getD};
+ghost use Prim.Native.Nat.{_+_, _*_, _≤_, _<_};
+ghost use lib.ListN.{length};
 ghost use Rattle.pixel.specs.Pixel.{getPixel, putPixel};
 ghost use Rattle.pixel.specs.Raster.{raster};
-ghost use Rattle.blit_line.specs.Line.{rank, spot, workLine, straightLine, readLine};
+ghost use Rattle.blit_line.specs.Line.{rank, lagged, workLine, straightLine, copied};
 
 // Pixels of one colour, side by side.
 fn fill_pixels(line: &mut [u8], bytes: usize, width: usize, colour: u16)
@@ -20,14 +18,14 @@ fn fill_pixels(line: &mut [u8], bytes: usize, width: usize, colour: u16)
     }
 }
 
-// Pixels of a source line, stored side by side.
-fn copy_pixels(line: &mut [u8], bytes: usize, width: usize, source: &[u16])
-    requires { ⌜ (0 < bytes) × (bytes ≤ 2) × (width ≤ 1024) × (length (now line) ≡ width * bytes) × (width ≤ length (now source)) ⌝ }
-    ensures { λ _. ⌜ now (line .exit) ≡ straightLine bytes (λ s d. s) (λ i. getD (now (source .entry)) i 0) width (now (line .entry)) ⌝ }
+// The bytes from an address on, copied to the start of a line.
+pub fn copy_bytes(from: &[u8], at: usize, size: usize, to: &mut [u8])
+    requires { ⌜ (size ≤ length (now to)) × (at + size ≤ length (now from)) ⌝ }
+    ensures { λ _. ⌜ now (to .exit) ≡ copied (now (from .entry)) at size (now (to .entry)) ⌝ }
 {
     let mut i = 0;
-    while i < width {
-        pixel_code::put_pixel(line, bytes, i * bytes, source[i]);
+    while i < size {
+        to[i] = from[at + i];
         i += 1;
     }
 }
@@ -43,13 +41,14 @@ fn combine_pixel(line: &mut [u8], bytes: usize, at: usize, code: u8, v: u16)
 }
 
 // Pixels of a source line, combined with those of the line under a raster code, side by side.
-fn combine_pixels(line: &mut [u8], bytes: usize, width: usize, code: u8, source: &[u16])
-    requires { ⌜ (0 < bytes) × (bytes ≤ 2) × (width ≤ 1024) × (length (now line) ≡ width * bytes) × (width ≤ length (now source)) ⌝ }
-    ensures { λ _. ⌜ now (line .exit) ≡ straightLine bytes (raster (8 * bytes) code) (λ i. getD (now (source .entry)) i 0) width (now (line .entry)) ⌝ }
+fn combine_pixels(line: &mut [u8], bytes: usize, width: usize, code: u8, source: &[u8])
+    requires { ⌜ (0 < bytes) × (bytes ≤ 2) × (width ≤ 1024) × (length (now line) ≡ width * bytes) × (width * bytes ≤ length (now source)) ⌝ }
+    ensures { λ _. ⌜ now (line .exit) ≡ straightLine bytes (raster (8 * bytes) code) (λ i. getPixel bytes (now (source .entry)) (i * bytes)) width (now (line .entry)) ⌝ }
 {
     let mut i = 0;
     while i < width {
-        combine_pixel(line, bytes, i * bytes, code, source[i]);
+        let v = pixel_code::get_pixel(source, bytes, i * bytes);
+        combine_pixel(line, bytes, i * bytes, code, v);
         i += 1;
     }
 }
@@ -68,15 +67,16 @@ fn lagged_pixel(
     down: bool,
     bytes: usize,
     width: usize,
-    pixel: u16,
+    source: &[u8],
     lag: usize,
     n: usize,
 ) -> u16
-    requires { ⌜ (0 < bytes) × (bytes ≤ 2) × (n < width) × (width ≤ 1024) × (length (now line) ≡ width * bytes) ⌝ }
-    ensures { λ r. ⌜ r ≡ cond (ltb n lag) pixel (getPixel bytes (now (line .entry)) (spot down bytes width (n - lag))) ⌝ }
+    requires { ⌜ (0 < bytes) × (bytes ≤ 2) × (n < width) × (width ≤ 1024) × (length (now line) ≡ width * bytes) × (width * bytes ≤ length (now source)) ⌝ }
+    ensures { λ r. ⌜ r ≡ lagged down bytes width (now (source .entry)) lag (now (line .entry)) n ⌝ }
 {
     if n < lag {
-        return pixel;
+        let k = rank_of(down, width, n);
+        return pixel_code::get_pixel(source, bytes, k * bytes);
     }
     let k = rank_of(down, width, n - lag);
     pixel_code::get_pixel(line, bytes, k * bytes)
@@ -89,16 +89,16 @@ fn smear_pixels(
     bytes: usize,
     width: usize,
     code: u8,
-    source: &[u16],
+    source: &[u8],
     lag: usize,
 )
-    requires { ⌜ (0 < bytes) × (bytes ≤ 2) × (width ≤ 1024) × (length (now line) ≡ width * bytes) × (width ≤ length (now source)) ⌝ }
+    requires { ⌜ (0 < bytes) × (bytes ≤ 2) × (width ≤ 1024) × (length (now line) ≡ width * bytes) × (width * bytes ≤ length (now source)) ⌝ }
     ensures { λ _. ⌜ now (line .exit) ≡ workLine down bytes width code (now (source .entry)) lag width (now (line .entry)) ⌝ }
 {
     let mut n = 0;
     while n < width {
+        let v = lagged_pixel(line, down, bytes, width, source, lag, n);
         let k = rank_of(down, width, n);
-        let v = lagged_pixel(line, down, bytes, width, source[k], lag, n);
         combine_pixel(line, bytes, k * bytes, code, v);
         n += 1;
     }
@@ -116,29 +116,22 @@ pub fn fill_worker(line: &mut [u8], bytes: usize, width: usize, colour: u16)
     }
 }
 
-// Draws a source line over a lent line under a raster code, in the direction named. From the lag on the source is the line itself.
-pub fn line_worker(
+// Draws a source line over a lent line under a raster code, pixel by pixel, in the direction named. From the lag on the source
+// is the line itself.
+pub fn pixel_worker(
     line: &mut [u8],
     down: bool,
     bytes: usize,
     width: usize,
     code: u8,
-    source: &[u16],
+    source: &[u8],
     lag: usize,
 )
-    requires { ⌜ (0 < bytes) × (bytes ≤ 2) × (width ≤ 1024) × (length (now line) ≡ width * bytes) × (width ≤ length (now source)) ⌝ }
+    requires { ⌜ (0 < bytes) × (bytes ≤ 2) × (width ≤ 1024) × (length (now line) ≡ width * bytes) × (width * bytes ≤ length (now source)) ⌝ }
     ensures { λ _. ⌜ now (line .exit) ≡ workLine down bytes width code (now (source .entry)) lag width (now (line .entry)) ⌝ }
 {
     if lag < width {
         smear_pixels(line, down, bytes, width, code, source, lag);
-        return;
-    }
-    if code == 0xC {
-        if bytes == 1 {
-            copy_pixels(line, 1, width, source);
-        } else {
-            copy_pixels(line, 2, width, source);
-        }
         return;
     }
     if bytes == 1 {
@@ -148,27 +141,24 @@ pub fn line_worker(
     }
 }
 
-// Pixels of memory from an address on.
-fn read_pixels(memory: &[u8], bytes: usize, width: usize, at: usize, source: &mut [u16])
-    requires { ⌜ (0 < bytes) × (bytes ≤ 2) × (width ≤ length (now source)) × (at + width * bytes ≤ length (now memory)) ⌝ }
-    ensures { λ _. ⌜ now (source .exit) ≡ readLine bytes (now (memory .entry)) at width (now (source .entry)) ⌝ }
+// The same, with the source line's bytes copied where code Ch does not smear.
+pub fn line_worker(
+    line: &mut [u8],
+    down: bool,
+    bytes: usize,
+    width: usize,
+    code: u8,
+    source: &[u8],
+    lag: usize,
+)
+    requires { ⌜ (0 < bytes) × (bytes ≤ 2) × (width ≤ 1024) × (length (now line) ≡ width * bytes) × (width * bytes ≤ length (now source)) ⌝ }
+    ensures { λ _. ⌜ now (line .exit) ≡ workLine down bytes width code (now (source .entry)) lag width (now (line .entry)) ⌝ }
 {
-    let mut i = 0;
-    while i < width {
-        let v = pixel_code::get_pixel(memory, bytes, at + i * bytes);
-        source[i] = v;
-        i += 1;
+    if code == 0xC {
+        if width <= lag {
+            copy_bytes(source, 0, width * bytes, line);
+            return;
+        }
     }
-}
-
-// Reads a source line.
-pub fn read_line(memory: &[u8], bytes: usize, width: usize, at: usize, source: &mut [u16])
-    requires { ⌜ (0 < bytes) × (bytes ≤ 2) × (width ≤ length (now source)) × (at + width * bytes ≤ length (now memory)) ⌝ }
-    ensures { λ _. ⌜ now (source .exit) ≡ readLine bytes (now (memory .entry)) at width (now (source .entry)) ⌝ }
-{
-    if bytes == 1 {
-        read_pixels(memory, 1, width, at, source);
-    } else {
-        read_pixels(memory, 2, width, at, source);
-    }
+    pixel_worker(line, down, bytes, width, code, source, lag);
 }

@@ -1,10 +1,10 @@
-use mathlib.Core.Path.{sym, ap, _∙_}
-use mathlib.Core.List.{List}
+use mathlib.Core.Path.{sym, ap}
 use Prim.Native.Nat.{ℕ, _+_, _-_, _*_}
 use native.Mathlib.Omega.{arith}
-use lib.ListN.{getD, getD-replicate}
+use lib.ListN.{length-replicate, replicate}
 use Rattle.blit_code.specs.Lines.{codeOf}
 use Rattle.blit_code.proofs.Lines.{colour-back, fill-back, line-bytes, to-room, to-zero}
+use Rattle.blit_code.proofs.Lift.{part-length}
 use borrow.Author.Needs.{needs}
 use Rattle.blit_code.proofs.colour_line.Statement.{statement}
 use Rattle.blit_code.proofs.colour_line.Tie as tie
@@ -44,26 +44,29 @@ fill-worker-requires c κs = search needs
 enum-known-mix : tie.Need-enum-known-mix
 enum-known-mix c = search needs
 
-same-pixels-requires : tie.Need-same-pixels-requires
-same-pixels-requires c κs = search needs
+colour-source-requires : tie.Need-colour-source-requires
+colour-source-requires c κs = search needs
 
-sub-line-worker : tie.Need-sub-line-worker
-sub-line-worker c = search needs
+sub-pixel-worker : tie.Need-sub-pixel-worker
+sub-pixel-worker c = search needs
 
-part-line-worker-start : tie.Need-part-line-worker-start
-part-line-worker-start c = search needs
+part-pixel-worker-start : tie.Need-part-pixel-worker-start
+part-pixel-worker-start c = search needs
 
-part-line-worker-end : tie.Need-part-line-worker-end
-part-line-worker-end c =
+part-pixel-worker-end : tie.Need-part-pixel-worker-end
+part-pixel-worker-end c =
     let to = c .before .before .before .before .before in
     let p = to .before .before .pre in
     to-room _ _ (p .0) _ _ (p .1) (to .low-end .ensures)
 
-slice-aggregate-line-worker : tie.Need-slice-aggregate-line-worker
-slice-aggregate-line-worker c = search needs
+slice-aggregate-pixel-worker : tie.Need-slice-aggregate-pixel-worker
+slice-aggregate-pixel-worker c = search needs
 
-line-worker-requires : tie.Need-line-worker-requires
-line-worker-requires c κs = search needs
+pixel-worker-requires : tie.Need-pixel-worker-requires
+pixel-worker-requires c κs =
+    let to = c .before .before .before .before .before .before .before in
+    let p = to .before .before .pre in
+    (p .0 .some-bytes, p .0 .few-bytes, p .0 .width, part-length _ _ _ (to-room _ _ (p .0) _ _ (p .1) (to .low-end .ensures)), omega (arith, line-bytes _ _ (p .0)))
 
 same-length : tie.Need-same-length
 same-length c = search needs
@@ -89,10 +92,9 @@ returns-2 c =
     let a = to .before .before .args in
     let p = to .before .before .pre in
     let b = a .job in
-    colour-back b (a .memory .now) (p .0) (a .j) (a .colour) _ (_ + b .width * b .bytes - _) (b .width) _ _ _ (p .1) (p .2)
+    colour-back b (a .memory .now) (p .0) (a .j) (a .colour) _ (_ + b .width * b .bytes - _) (b .width) _ (replicate 2048 0) _ _ (p .1) (p .2)
     (to .low-end .ensures) (omega arith) (ap codeOf (sym (same .before .before .mix .given .1))) (omega arith)
-    (λ n h. ap (λ (x : List ℕ). getD x n 0) (same .same-pixels .ensures) ∙ getD-replicate 1024 n (a .colour) 0 (omega (arith, p .0 .width)))
-    (worked .line-worker .ensures)
+    (omega (arith, line-bytes _ _ (p .0), length-replicate {0} {A = ℕ} 2048 0)) (same .colour-source .ensures) (worked .pixel-worker .ensures)
 
 pub colour-line-spec : {M : Type 1} → statement M
 colour-line-spec =
@@ -107,12 +109,12 @@ colour-line-spec =
     part-fill-worker-end
     fill-worker-requires
     enum-known-mix
-    same-pixels-requires
-    sub-line-worker
-    part-line-worker-start
-    part-line-worker-end
-    slice-aggregate-line-worker
-    line-worker-requires
+    colour-source-requires
+    sub-pixel-worker
+    part-pixel-worker-start
+    part-pixel-worker-end
+    slice-aggregate-pixel-worker
+    pixel-worker-requires
     same-length
     returns
     same-length-2

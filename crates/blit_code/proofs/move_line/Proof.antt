@@ -1,8 +1,9 @@
 use mathlib.Core.Path.{ap, _∙_}
 use Prim.Native.Nat.{ℕ, _+_, _-_, _*_}
 use native.Mathlib.Omega.{arith}
-use Rattle.blit_line.specs.Line.{readLine}
+use Rattle.blit_line.specs.Line.{copied}
 use Rattle.blit_code.proofs.Lines.{from-room, from-zero, line-bytes, move-back, to-room, to-zero}
+use Rattle.blit_code.proofs.Lift.{part-length}
 use borrow.Author.Needs.{needs}
 use Rattle.blit_code.proofs.move_line.Statement.{statement}
 use Rattle.blit_code.proofs.move_line.Tie as tie
@@ -17,19 +18,20 @@ low-end-requires-2 c κs =
     let p = c .before .before .before .pre in
     (p .0 .few-bytes, p .0 .line, p .0 .width, omega (arith, p .0 .height), to-zero _ _ (p .0) _ (p .1))
 
-read-line-requires : tie.Need-read-line-requires
-read-line-requires c κs =
-    let p = c .before .before .before .before .before .before .pre in
-    (p .0 .some-bytes, p .0 .few-bytes, omega (arith, p .0 .width), from-room _ _ (p .0) _ (p .2) _ _ (p .1) (c .before .before .before .low-end .ensures))
+mul-size : tie.Need-mul-size
+mul-size c = let start = c .before .before .before .before .before in omega (arith, line-bytes _ _ (start .pre .0))
+
+copy-bytes-requires : tie.Need-copy-bytes-requires
+copy-bytes-requires c κs =
+    let from = c .before .before .before .before in
+    let p = from .before .before .before .pre in
+    (omega (arith, line-bytes _ _ (p .0)), from-room _ _ (p .0) _ (p .2) _ _ (p .1) (from .low-end .ensures))
 
 lag-of-requires : tie.Need-lag-of-requires
 lag-of-requires c κs = search needs
 
 code-of-requires : tie.Need-code-of-requires
 code-of-requires c κs = search needs
-
-mul-e : tie.Need-mul-e
-mul-e c = let start = c .before .before .before .before .before .before .before .before .before .before .before .before in omega (arith, line-bytes _ _ (start .pre .0))
 
 add-e : tie.Need-add-e
 add-e c =
@@ -50,7 +52,10 @@ part-line-worker-end c =
     to-room _ _ (p .0) _ _ (p .1) (to .low-end2 .ensures)
 
 line-worker-requires : tie.Need-line-worker-requires
-line-worker-requires c κs = search needs
+line-worker-requires c κs =
+    let to = c .before .before .before .before .before .before .before .before .before .before in
+    let p = to .before .before .before .before .pre in
+    (p .0 .some-bytes, p .0 .few-bytes, p .0 .width, part-length _ _ _ (to-room _ _ (p .0) _ _ (p .1) (to .low-end2 .ensures)), omega (arith, line-bytes _ _ (p .0)))
 
 same-length : tie.Need-same-length
 same-length c = search needs
@@ -61,17 +66,17 @@ same-length-2 c = search needs
 returns : tie.Need-returns
 returns c =
     let worked = c .before .before in
-    let coded = worked .before .before .before .before in
-    let read = coded .before .before .before .before in
-    let to = read .before .before .before in
+    let coded = worked .before .before .before in
+    let copy = coded .before .before .before .before in
+    let to = copy .before .before .before .before in
     let from = to .before in
     let a = from .before .before .before .args in
     let p = from .before .before .before .pre in
     let b = a .job in (
       move-back b (a .memory .now) (p .0) (a .j) (a .from) _ _ (_ + b .width * b .bytes - _) _ _ (a .source .now) _ _ (p .1) (p .2)
           (from .low-end .ensures) (to .low-end2 .ensures) (omega arith) (coded .code-of .ensures) (coded .before .lag-of .ensures)
-          (omega (arith, p .0 .width)) (read .read-line .ensures) (worked .line-worker .ensures),
-      read .read-line .ensures ∙ ap (λ (x : ℕ). readLine (b .bytes) (a .memory .now) x (b .width) (a .source .now)) (from .low-end .ensures),
+          (omega (arith, line-bytes _ _ (p .0))) (copy .copy-bytes .ensures) (worked .line-worker .ensures),
+      copy .copy-bytes .ensures ∙ ap (λ (x : ℕ). copied (a .memory .now) x (b .width * b .bytes) (a .source .now)) (from .low-end .ensures),
     )
 
 pub move-line-spec : {M : Type 1} → statement M
@@ -80,10 +85,10 @@ move-line-spec =
     (tie.spec
     low-end-requires
     low-end-requires-2
-    read-line-requires
+    mul-size
+    copy-bytes-requires
     lag-of-requires
     code-of-requires
-    mul-e
     add-e
     sub-line-worker
     part-line-worker-start

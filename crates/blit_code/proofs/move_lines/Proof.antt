@@ -1,5 +1,4 @@
 use mathlib.Core.Path.{_≡_, ap, _∙_}
-use mathlib.Core.List.{List}
 use Prim.Native.Nat.{ℕ, _-_, _≤_}
 use native.Mathlib.Numerals.{add-one}
 use native.Mathlib.Omega.{arith}
@@ -15,30 +14,25 @@ use Rattle.blit_code.proofs.move_lines.Tie as tie
 abbrev Inv-loop : tie.InvT-loop
 Inv-loop job from memory₀ source₀ j₀ memory source j =
     (j ≤ job .height) × (length memory ≡ length memory₀) × (memory ≡ chipLines (blitOf job) (towards (job .down)) j memory₀)
-    × (length source ≡ 1024)
+    × (length source ≡ 2048)
 
 abbrev μ-loop : tie.MeasureT-loop
 μ-loop job from memory₀ source₀ j₀ memory source j = job .height - j
 
-same-pixels-requires : tie.Need-same-pixels-requires Inv-loop μ-loop
-same-pixels-requires c κs = search needs
-
 loop-holds : tie.Need-loop-holds Inv-loop μ-loop
-loop-holds c = (
-  omega arith,
-  omega arith,
-  lines-none (c .before .before .args .job) _,
-  ap (λ (x : List ℕ). length x) (c .same-pixels .ensures) ∙ length-replicate {0} {A = ℕ} 1024 0,
-)
+loop-holds c = (omega arith, omega arith, lines-none (c .before .args .job) _, length-replicate {0} {A = ℕ} 2048 0)
 
 slice-aggregate-move-line : tie.Need-slice-aggregate-move-line Inv-loop μ-loop
 slice-aggregate-move-line c = search needs
 
 move-line-requires : tie.Need-move-line-requires Inv-loop μ-loop
-move-line-requires c κs = (job-in _ _ _ (c .before .before .before .before .loop .inv .1) (c .before .before .before .before .before .before .before .pre .0), omega arith, c .before .before .before .before .before .before .before .pre .1, omega arith)
+move-line-requires c κs =
+    let l = c .before .before .before .before in
+    let p = l .before .before .pre in
+    (job-in _ _ _ (l .loop .inv .1) (p .0), omega arith, p .1, omega arith)
 
 add-j : tie.Need-add-j Inv-loop μ-loop
-add-j c = omega (arith, c .before .before .before .before .before .before .before .before .before .before .before .pre .0 .height)
+add-j c = omega (arith, c .before .before .before .before .before .before .before .before .before .before .pre .0 .height)
 
 loop-less : tie.Need-loop-less Inv-loop μ-loop
 loop-less c = search needs
@@ -47,7 +41,7 @@ loop-again : tie.Need-loop-again Inv-loop μ-loop
 loop-again c =
     let drawn = c .before .before .before in
     let l = drawn .before .before .before .before .before .loop in
-    let b = drawn .before .before .before .before .before .before .before .before .args .job in (
+    let b = drawn .before .before .before .before .before .before .before .args .job in (
       omega arith,
       ap length (drawn .move-line .ensures .0) ∙ length-line (blitOf b) (towards (b .down)) _ _ _ ∙ l .inv .1,
       rw add-one (lines-more b (l .j) _ (l .memory) _ (l .inv .2) (drawn .move-line .ensures .0)),
@@ -58,7 +52,7 @@ same-length : tie.Need-same-length Inv-loop μ-loop
 same-length c = search needs
 
 returns : tie.Need-returns Inv-loop μ-loop
-returns c = lines-end (c .before .before .before .before .before .args .job) _ _ _ (c .before .before .loop .inv .2) (omega arith)
+returns c = lines-end (c .before .before .before .before .args .job) _ _ _ (c .before .before .loop .inv .2) (omega arith)
 
 pub move-lines-spec : {M : Type 1} → statement M
 move-lines-spec =
@@ -66,7 +60,6 @@ move-lines-spec =
     (tie.spec
     Inv-loop
     μ-loop
-    same-pixels-requires
     loop-holds
     slice-aggregate-move-line
     move-line-requires

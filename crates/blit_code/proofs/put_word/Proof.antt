@@ -1,13 +1,14 @@
-use Prim.Native.Nat.{_+_, _-_, _*_, _≤_}
+use Prim.Native.Nat.{_+_, _-_, _*_}
+use native.Mathlib.Nat.{div-le-self, le-div-iff-mul-le}
 use native.Mathlib.Omega.{arith}
-use lib.ListN.{length-drop, length-take}
-use Rattle.blit_code.proofs.Put.{few-pixels, word-back}
+use Rattle.blit_code.proofs.Lift.{part-length}
+use Rattle.blit_code.proofs.Put.{word-back}
 use borrow.Author.Needs.{needs}
 use Rattle.blit_code.proofs.put_word.Statement.{statement}
 use Rattle.blit_code.proofs.put_word.Tie as tie
 
-word-pixels-requires : tie.Need-word-pixels-requires
-word-pixels-requires c κs = search needs
+word-bytes-requires : tie.Need-word-bytes-requires
+word-bytes-requires c κs = search needs
 
 code-of-requires : tie.Need-code-of-requires
 code-of-requires c κs = search needs
@@ -33,9 +34,13 @@ slice-aggregate-line-worker c = search needs
 line-worker-requires : tie.Need-line-worker-requires
 line-worker-requires c κs =
     let a = c .before .before .before .before .before .args in
-    let p = c .before .before .before .before .before .pre in
-    let few : a .count ≤ 2 = few-pixels (a .bytes) (a .count) (p .0) (p .1) (p .2) in
-    (omega arith, omega arith, omega arith, simp (length-take, length-drop) (omega arith), rw (c .before .before .before .word-pixels .ensures) few)
+    let p = c .before .before .before .before .before .pre in (
+      p .0,
+      p .1,
+      omega (arith, div-le-self 2 (a .bytes)),
+      part-length _ _ _ (p .3),
+      rw (c .before .before .before .word-bytes .ensures) (le-div-iff-mul-le (p .0) .0 (p .2)),
+    )
 
 same-length : tie.Need-same-length
 same-length c = search needs
@@ -48,14 +53,13 @@ returns c =
     let a = start .args in
     let p = start .pre in
     word-back (a .bytes) (a .mix) (a .at) (a .count) (a .at + a .count * a .bytes - a .at) (a .word) _ (a .memory .now) _ _
-    (few-pixels (a .bytes) (a .count) (p .0) (p .1) (p .2)) (p .3) (omega arith)
-    (coded .code-of .ensures) (coded .before .word-pixels .ensures) (worked .line-worker .ensures)
+    (omega arith) (p .3) (omega arith) (coded .code-of .ensures) (coded .before .word-bytes .ensures) (worked .line-worker .ensures)
 
 pub put-word-spec : {M : Type 1} → statement M
 put-word-spec =
     tie.close
     (tie.spec
-    word-pixels-requires
+    word-bytes-requires
     code-of-requires
     mul-e
     add-e

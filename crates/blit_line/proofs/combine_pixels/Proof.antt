@@ -3,7 +3,8 @@ use Prim.Native.Nat.{_-_, _*_, _≤_}
 use native.Mathlib.Numerals.{add-one}
 use native.Mathlib.Omega.{arith}
 use borrow.Author.Needs.{needs}
-use lib.ListN.{length, getD}
+use lib.ListN.{length}
+use Rattle.pixel.specs.Pixel.{getPixel}
 use Rattle.pixel.specs.Raster.{raster}
 use Rattle.pixel.proofs.Pixels.{length-put}
 use Rattle.blit_line.specs.Line.{straightLine}
@@ -13,7 +14,7 @@ use Rattle.blit_line.proofs.combine_pixels.Statement.{statement}
 use Rattle.blit_line.proofs.combine_pixels.Tie as tie
 
 abbrev Inv-loop : tie.InvT-loop
-Inv-loop line₀ bytes width code source i₀ line i = (i ≤ width) × (length line ≡ width * bytes) × (line ≡ straightLine bytes (raster (8 * bytes) code) (λ k. getD source k 0) i line₀)
+Inv-loop line₀ bytes width code source i₀ line i = (i ≤ width) × (length line ≡ width * bytes) × (line ≡ straightLine bytes (raster (8 * bytes) code) (λ k. getPixel bytes source (k * bytes)) i line₀)
 
 abbrev μ-loop : tie.MeasureT-loop
 μ-loop line₀ bytes width code source i₀ line i = width - i
@@ -21,21 +22,27 @@ abbrev μ-loop : tie.MeasureT-loop
 loop-holds : tie.Need-loop-holds Inv-loop μ-loop
 loop-holds c = (omega arith, omega arith, straight-none _ _ _ _)
 
+mul-get-pixel : tie.Need-mul-get-pixel Inv-loop μ-loop
+mul-get-pixel c =
+    let a = c .before .before .before .before .args in
+    omega (arith, step-fits (a .bytes) (c .before .loop .i) (a .width) (omega arith))
+
+get-pixel-requires : tie.Need-get-pixel-requires Inv-loop μ-loop
+get-pixel-requires c κs =
+    let a = c .before .before .before .before .args in
+    omega (arith, step-fits (a .bytes) (c .before .loop .i) (a .width) (omega arith))
+
 mul-combine-pixel : tie.Need-mul-combine-pixel Inv-loop μ-loop
 mul-combine-pixel c =
-    let a = c .before .before .before .before .before .args in
-    omega (arith, step-fits (a .bytes) (c .before .before .loop .i) (a .width) (omega arith))
-
-mul-combine-pixel-2 : tie.Need-mul-combine-pixel-2 Inv-loop μ-loop
-mul-combine-pixel-2 c = search needs
-
-shared-slice-read-combine-pixel : tie.Need-shared-slice-read-combine-pixel Inv-loop μ-loop
-shared-slice-read-combine-pixel c = search needs
+    let l = c .before .before .before .loop in
+    let a = c .before .before .before .before .before .before .args in
+    omega (arith, step-fits (a .bytes) (l .i) (a .width) (omega arith))
 
 combine-pixel-requires : tie.Need-combine-pixel-requires Inv-loop μ-loop
 combine-pixel-requires c κs =
+    let l = c .before .before .before .loop in
     let a = c .before .before .before .before .before .before .args in
-    omega (arith, step-fits (a .bytes) (c .before .before .before .loop .i) (a .width) (omega arith))
+    omega (arith, step-fits (a .bytes) (l .i) (a .width) (omega arith))
 
 add-i : tie.Need-add-i Inv-loop μ-loop
 add-i c = search needs
@@ -46,13 +53,15 @@ loop-less c = search needs
 loop-again : tie.Need-loop-again Inv-loop μ-loop
 loop-again c =
     let put = c .before .before in
-    let l = put .before .before .before .before .loop in
-    let a = put .before .before .before .before .before .before .before .args in (
+    let fetched = put .before .before in
+    let l = fetched .before .before .loop in
+    let a = fetched .before .before .before .before .before .args in (
       omega arith,
       ap length (put .combine-pixel .ensures) ∙ length-put _ _ _ _ ∙ l .inv .1,
       rw add-one
           (put .combine-pixel .ensures
-          ∙ straight-more (a .bytes) (raster (8 * a .bytes) (a .code)) (λ k. getD (a .source .now) k 0) (l .i) _ (l .line) (l .inv .2)),
+          ∙ straight-more (a .bytes) (raster (8 * a .bytes) (a .code)) (λ k. getPixel (a .bytes) (a .source .now) (k * a .bytes)) (l .i) _ (l .line) _
+          (l .inv .2) (fetched .get-pixel .ensures)),
     )
 
 same-length : tie.Need-same-length Inv-loop μ-loop
@@ -68,9 +77,9 @@ combine-pixels-spec =
     Inv-loop
     μ-loop
     loop-holds
+    mul-get-pixel
+    get-pixel-requires
     mul-combine-pixel
-    mul-combine-pixel-2
-    shared-slice-read-combine-pixel
     combine-pixel-requires
     add-i
     loop-less

@@ -1,4 +1,4 @@
-use mathlib.Core.Path.{_≡_, ap, _∙_}
+use mathlib.Core.Path.{_≡_, refl, ap, _∙_}
 use Prim.Native.Nat.{_-_, _*_, _≤_}
 use native.Mathlib.Numerals.{add-one}
 use native.Mathlib.Omega.{arith}
@@ -43,7 +43,7 @@ loop-again c =
     let a = put .before .before .before .before .before .args in (
       omega arith,
       ap length (put .put-pixel .ensures) ∙ length-put _ _ _ _ ∙ l .inv .1,
-      rw add-one (put .put-pixel .ensures ∙ straight-more (a .bytes) (λ s d. s) (λ k. a .colour) (l .i) _ (l .line) (l .inv .2)),
+      rw add-one (put .put-pixel .ensures ∙ straight-more (a .bytes) (λ s d. s) (λ k. a .colour) (l .i) _ (l .line) _ (l .inv .2) refl),
     )
 
 same-length : tie.Need-same-length Inv-loop μ-loop

@@ -20,28 +20,22 @@ abbrev μ-loop : tie.MeasureT-loop
 loop-holds : tie.Need-loop-holds Inv-loop μ-loop
 loop-holds c = (omega arith, omega arith, work-none _ _ _ _ _ _ _)
 
-rank-of-requires : tie.Need-rank-of-requires Inv-loop μ-loop
-rank-of-requires c κs = search needs
-
-mul-lagged-pixel : tie.Need-mul-lagged-pixel Inv-loop μ-loop
-mul-lagged-pixel c = search needs
-
-shared-slice-read-lagged-pixel : tie.Need-shared-slice-read-lagged-pixel Inv-loop μ-loop
-shared-slice-read-lagged-pixel c = search needs
-
 lagged-pixel-requires : tie.Need-lagged-pixel-requires Inv-loop μ-loop
 lagged-pixel-requires c κs = search needs
 
+rank-of-requires : tie.Need-rank-of-requires Inv-loop μ-loop
+rank-of-requires c κs = search needs
+
 mul-combine-pixel : tie.Need-mul-combine-pixel Inv-loop μ-loop
 mul-combine-pixel c =
-    let ranked = c .before .before .before .before in
-    let a = ranked .before .before .before .before .before .args in
+    let ranked = c .before in
+    let a = ranked .before .before .before .before .before .before .before .args in
     omega (arith, step-fits (a .bytes) (ranked .rank-of .result) (a .width) (ranked .rank-of .ensures .1))
 
 combine-pixel-requires : tie.Need-combine-pixel-requires Inv-loop μ-loop
 combine-pixel-requires c κs =
-    let ranked = c .before .before .before .before in
-    let a = ranked .before .before .before .before .before .args in
+    let ranked = c .before in
+    let a = ranked .before .before .before .before .before .before .before .args in
     omega (arith, step-fits (a .bytes) (ranked .rank-of .result) (a .width) (ranked .rank-of .ensures .1))
 
 add-n : tie.Need-add-n Inv-loop μ-loop
@@ -53,10 +47,10 @@ loop-less c = search needs
 loop-again : tie.Need-loop-again Inv-loop μ-loop
 loop-again c =
     let put = c .before .before in
-    let fetched = put .before .before in
-    let ranked = fetched .before .before .before in
-    let l = ranked .before .before .loop in
-    let a = ranked .before .before .before .before .before .args in (
+    let ranked = put .before .before in
+    let fetched = ranked .before in
+    let l = fetched .before .before .before .loop in
+    let a = fetched .before .before .before .before .before .before .args in (
       omega arith,
       ap length (put .combine-pixel .ensures) ∙ length-put _ _ _ _ ∙ l .inv .1,
       rw add-one
@@ -78,10 +72,8 @@ smear-pixels-spec =
     Inv-loop
     μ-loop
     loop-holds
-    rank-of-requires
-    mul-lagged-pixel
-    shared-slice-read-lagged-pixel
     lagged-pixel-requires
+    rank-of-requires
     mul-combine-pixel
     combine-pixel-requires
     add-n
