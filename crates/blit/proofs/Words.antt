@@ -1,13 +1,12 @@
 -- Host words: drawn one after the other, the words of a write make its lines.
 use mathlib.Core.Path.{_≡_, refl, sym, ap, ap₂, _∙_}
-use mathlib.Core.List.{List, [], _∷_}
-use Prim.Native.Nat.{ℕ, zero, suc, _+_, _-_, _*_, _/_, _%_, _≤_, _<_, min}
+use mathlib.Core.List.{List}
+use Prim.Native.Nat.{ℕ, zero, suc, _+_, _-_, _*_, _/_, _≤_, _<_, min}
 use native.Mathlib.Nat.{add-mul, suc-mul, zero-mul, mul-le-mul-right}
 use native.Mathlib.Numerals.{add-one}
 use native.Mathlib.Omega.{arith}
 use lib.Arith.{digits-div, digits-mod}
 use lib.ListN.{length, getD}
-use Rattle.pixel.specs.Pixel.{getPixel}
 use Rattle.blit.specs.Blit.{Blit, Source, given, positive, offset, pixels, chipLine, chipLines, chipBlit}
 use Rattle.blit.specs.Words.{perWord, lineWords, wordPixel, hostPixel, chipWord}
 use Rattle.blit.proofs.Runs.{length-pixels, pixels-append, pixels-ext}
@@ -27,21 +26,6 @@ words-cover zero width p q = absurd (omega arith)
 words-cover (suc zero) width p q = omega arith
 words-cover (suc (suc zero)) width p q = omega arith
 words-cover (suc (suc (suc n))) width p q = absurd (omega arith)
-
--- ---- the pixels of a word
-
-pub two-pixels : (bytes word : ℕ) → bytes ≡ 1 → word < 65536 → word % 256 ∷ word / 256 ∷ [] ≡ wordPixel bytes word 0 ∷ wordPixel bytes word 1 ∷ []
-unfolding wordPixel getPixel
-two-pixels bytes word e h =
-    let low : word % 256 ≡ word % 256 + 256 * 0 = omega arith in
-    let high : word / 256 ≡ word / 256 % 256 + 256 * 0 = omega arith in
-    rw e (ap₂ (λ (x y : ℕ). x ∷ y ∷ []) low high)
-
-pub one-pixel : (bytes word : ℕ) → bytes ≡ 2 → word < 65536 → word ∷ 0 ∷ [] ≡ wordPixel bytes word 0 ∷ wordPixel bytes word 1 ∷ []
-unfolding wordPixel getPixel
-one-pixel bytes word e h =
-    let all : word ≡ word % 256 + 256 * (word / 256 % 256 + 256 * 0) = omega arith in
-    rw e (ap (λ (x : ℕ). x ∷ 0 ∷ []) all)
 
 -- ---- one word
 
