@@ -3,7 +3,7 @@ use Prim.Native.Nat.{ℕ}
 use mathlib.Core.Path.{_≡_, refl}
 use mathlib.Core.Bool.{true, false}
 use mathlib.Core.List.{List, [], _∷_, _++_}
-use lib.ListN.{replicate}
+use lib.ListN.{length}
 use Rattle.record.specs.Checks.{firstOf}
 use Rattle.record.specs.Record.{entry, recordBytes, streamBytes, recordAt, recordsFrom, recordsOf}
 use Rattle.record.specs.declared.Record.{Record}
@@ -30,10 +30,12 @@ commandRecords a b c d e f g h i =
 abbrev pub b1 : List Record
 b1 = screenRecords 0 0x50 0 0 0 0 ++ commandRecords 0xC 0 0x190A 0xA0 0x63 0x95 0 1 1
 
--- on a cleared memory it is accepted, and gives the six values
-pub b1-played : playing 262144 (streamBytes b1) (replicate 262144 0) ≡ acceptedBy (record { main = record { start = 0; offset = 0x50 }; window = record { start = 0; offset = 0 }; x = 0; y = 0 })
+-- on any memory of 262,144 bytes it is accepted, and gives the six values
+pub b1-played : (memory : List ℕ) → length memory ≡ 262144
+    → playing 262144 (streamBytes b1) memory
+    ≡ acceptedBy (record { main = record { start = 0; offset = 0x50 }; window = record { start = 0; offset = 0 }; x = 0; y = 0 })
 unfolding firstOf recordBytes streamBytes recordAt recordsFrom recordsOf listed fits screenAfter blitAfter startable span within admitRows refusal dueAfter dueOf chipAfter newChip run ending playing
-b1-played = refl
+b1-played memory e = rw e refl
 
 -- the registers are then its values
 pub b1-registers : run 262144 newChip 0 b1
