@@ -1,6 +1,7 @@
 -- Cases on eight bytes, by computation: 01's B2 and B3, on the line 1 2 3 4 5 6 7 8 a move of seven bytes by one to the right
 -- and to the left under code Ch, and what the wrong direction makes of each; and writes of two lines at both depths.
 use mathlib.Core.Path.{_≡_, refl}
+use mathlib.Core.Bool.{true, false}
 use mathlib.Core.List.{List, [], _∷_}
 use Prim.Native.Nat.{ℕ}
 use Rattle.pixel.specs.Pixel.{getPixel, putPixel, byteOf}
@@ -8,6 +9,7 @@ use Rattle.pixel.specs.Raster.{bitwise, raster}
 use Rattle.blit.specs.Blit.{Blit, given, memory, positive, negative, pixels, chipLine, chipLines, chipBlit, directionOf, fromLast, starting}
 use Rattle.blit.specs.Rectangle.{inside, paintedPixel, paintedByte, painted}
 use Rattle.blit.specs.Words.{wordPixel, hostPixel, chipWord}
+use Rattle.blit.specs.Line.{rank, lagged, workLine, straightLine, copied}
 
 abbrev pub line8 : List ℕ
 line8 = 1 ∷ 2 ∷ 3 ∷ 4 ∷ 5 ∷ 6 ∷ 7 ∷ 8 ∷ []
@@ -56,3 +58,14 @@ wide-lines = refl
 pub odd-word : chipWord (writeOf 1 3 []) 1 1 0x2322 line8 ≡ 1 ∷ 2 ∷ 3 ∷ 4 ∷ 5 ∷ 6 ∷ 0x22 ∷ 8 ∷ []
 unfolding getPixel putPixel pixels wordPixel chipWord
 odd-word = refl
+
+-- lines of the line functions: bytes copied, pixels stored side by side, a line drawn without smear, smeared upwards and downwards
+-- where its source is its own pixel before, and exclusive or of a wide pixel
+pub line-cases : (copied (1 ∷ 2 ∷ 3 ∷ []) 1 2 (9 ∷ 9 ∷ 9 ∷ []) ≡ 2 ∷ 3 ∷ 9 ∷ [])
+    × (straightLine 2 (λ s d. s) (λ i. 0x1234) 1 (9 ∷ 9 ∷ 9 ∷ 9 ∷ []) ≡ 0x34 ∷ 0x12 ∷ 9 ∷ 9 ∷ [])
+    × (workLine true 2 2 0xC (5 ∷ 6 ∷ 7 ∷ 8 ∷ []) 2 2 (1 ∷ 2 ∷ 3 ∷ 4 ∷ []) ≡ 5 ∷ 6 ∷ 7 ∷ 8 ∷ [])
+    × (workLine false 1 3 0xC (5 ∷ 6 ∷ 7 ∷ []) 1 3 (1 ∷ 2 ∷ 3 ∷ []) ≡ 5 ∷ 5 ∷ 5 ∷ [])
+    × (workLine true 1 3 0xC (5 ∷ 6 ∷ 7 ∷ []) 1 3 (1 ∷ 2 ∷ 3 ∷ []) ≡ 7 ∷ 7 ∷ 7 ∷ [])
+    × (workLine false 2 1 6 (0xFF ∷ 0x0F ∷ []) 1 1 (0x0F ∷ 0xFF ∷ []) ≡ 0xF0 ∷ 0xF0 ∷ [])
+unfolding getPixel putPixel bitwise pixels rank lagged workLine straightLine copied
+line-cases = (refl, refl, refl, refl, refl, refl)

@@ -4,3 +4,6 @@ pub mod Frontier
 pub mod Direction
 pub mod Words
 pub mod Cases
+pub mod Worker
+pub mod Straight
+pub mod Copy

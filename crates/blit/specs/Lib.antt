@@ -1,3 +1,4 @@
 pub mod Blit
 pub mod Rectangle
 pub mod Words
+pub mod Line

@@ -16,12 +16,12 @@ use Rattle.pixel.specs.Pixel.{getPixel, putPixel}
 use Rattle.pixel.specs.Raster.{bit, bitwise, raster}
 use Rattle.pixel.proofs.Pixels.{get-ext, get-part, get-put, get-put-below, put-part}
 use Rattle.blit.specs.Blit.{pixels}
-use Rattle.blit_line.specs.Line.{rank, spot, lagged, workLine, straightLine, copied}
+use Rattle.blit.specs.Line.{rank, spot, lagged, workLine, straightLine, copied}
 use Rattle.blit_code.specs.Lines.{codeOf, lagOf}
 use Rattle.blit.proofs.Runs.{below-or-not, step-fits, length-pixels, keep-pixels, pixels-ext}
-use Rattle.blit_line.proofs.Worker.{spot-fits}
-use Rattle.blit_line.proofs.Copy.{copied-pixel}
-use Rattle.blit_line.proofs.Straight.{pow-bytes, store-is-code}
+use Rattle.blit.proofs.Worker.{spot-fits}
+use Rattle.blit.proofs.Copy.{copied-pixel}
+use Rattle.blit.proofs.Straight.{pow-bytes, store-is-code}
 use Rattle.blit_code.specs.Job.{mixOf}
 use Rattle.blit_code.specs.declared.Mix.{Mix}
 use Rattle.blit_code.specs.declared.Mix.the-variants.{Store, Raster}

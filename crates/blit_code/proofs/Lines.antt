@@ -11,15 +11,15 @@ use Rattle.pixel.specs.Pixel.{getPixel}
 use Rattle.pixel.specs.Raster.{raster}
 use Rattle.blit.specs.Blit.{Direction, towards, along, sourcePixel, pixels, chipLine, chipLines, chipBlit}
 use Rattle.blit_code.specs.Job.{mixOf, sourceOf, blitOf, LineIn, SourceIn, JobOk}
-use Rattle.blit_line.specs.Line.{rank, spot, workLine, straightLine, copied}
+use Rattle.blit.specs.Line.{rank, spot, workLine, straightLine, copied}
 use Rattle.blit_code.specs.Lines.{codeOf, lagOf, lowEnd, AboveZero}
 use Rattle.blit_code.specs.declared.Mix.the-variants.{Store}
 use Rattle.blit_code.specs.declared.From.{From}
 use Rattle.blit_code.specs.declared.From.the-variants.{Colour, Memory}
 use Rattle.blit_code.specs.declared.Job.{Job}
 use Rattle.blit.proofs.Runs.{pixels-ext}
-use Rattle.blit_line.proofs.Worker.{rank-lt}
-use Rattle.blit_line.proofs.Straight.{store-is-code}
+use Rattle.blit.proofs.Worker.{rank-lt}
+use Rattle.blit.proofs.Straight.{store-is-code}
 use Rattle.blit_code.proofs.Lift.{cut-colour, fill-put-back, filled-pixel, mix-is-code, put-back, sourced-given, sourced-move}
 
 -- ---- lags

@@ -10,7 +10,7 @@ use Rattle.pixel.specs.Raster.{raster}
 use Rattle.blit.specs.Blit.{pixels}
 use Rattle.blit_code.specs.Job.{mixOf}
 use Rattle.blit.specs.Words.{wordPixel}
-use Rattle.blit_line.specs.Line.{rank, workLine}
+use Rattle.blit.specs.Line.{rank, workLine}
 use Rattle.blit_code.specs.Lines.{codeOf}
 use Rattle.blit_code.specs.declared.Mix.{Mix}
 use Rattle.blit_code.proofs.Lift.{mix-is-code, put-back, sourced-given}

@@ -6,7 +6,7 @@ ghost use lib.ListN.{length, replicate};
 ghost use Rattle.blit.specs.Blit.{pixels, chipLine, chipBlit, towards};
 ghost use Rattle.blit.specs.Words.{perWord, wordPixel};
 ghost use Rattle.blit_code.specs.Job.{mixOf, blitOf, JobOk};
-ghost use Rattle.blit_line.specs.Line.{straightLine, copied};
+ghost use Rattle.blit.specs.Line.{straightLine, copied};
 ghost use Rattle.blit_code.specs.Lines.{codeOf, lagOf, lowEnd, AboveZero};
 ghost use Rattle.blit_code.specs.declared.From.the-variants.{Colour, Memory};
 

@@ -4,7 +4,7 @@ ghost use Prim.Native.Nat.{_+_, _*_, _≤_, _<_};
 ghost use lib.ListN.{length};
 ghost use Rattle.pixel.specs.Pixel.{getPixel, putPixel};
 ghost use Rattle.pixel.specs.Raster.{raster};
-ghost use Rattle.blit_line.specs.Line.{rank, lagged, workLine, straightLine, copied};
+ghost use Rattle.blit.specs.Line.{rank, lagged, workLine, straightLine, copied};
 
 // Pixels of one colour, side by side.
 fn fill_pixels(line: &mut [u8], bytes: usize, width: usize, colour: u16)

@@ -1,7 +1,7 @@
 use mathlib.Core.Path.{ap, _∙_}
 use Prim.Native.Nat.{ℕ, _+_, _-_, _*_}
 use native.Mathlib.Omega.{arith}
-use Rattle.blit_line.specs.Line.{copied}
+use Rattle.blit.specs.Line.{copied}
 use Rattle.blit_code.proofs.Lines.{from-room, from-zero, line-bytes, move-back, to-room, to-zero}
 use Rattle.blit_code.proofs.Lift.{part-length}
 use borrow.Author.Needs.{needs}

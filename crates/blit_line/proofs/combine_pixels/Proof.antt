@@ -7,9 +7,9 @@ use lib.ListN.{length}
 use Rattle.pixel.specs.Pixel.{getPixel}
 use Rattle.pixel.specs.Raster.{raster}
 use Rattle.pixel.proofs.Pixels.{length-put}
-use Rattle.blit_line.specs.Line.{straightLine}
+use Rattle.blit.specs.Line.{straightLine}
 use Rattle.blit.proofs.Runs.{step-fits}
-use Rattle.blit_line.proofs.Worker.{straight-none, straight-more, straight-end}
+use Rattle.blit.proofs.Worker.{straight-none, straight-more, straight-end}
 use Rattle.blit_line.proofs.combine_pixels.Statement.{statement}
 use Rattle.blit_line.proofs.combine_pixels.Tie as tie
 

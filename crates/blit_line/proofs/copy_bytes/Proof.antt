@@ -4,8 +4,8 @@ use native.Mathlib.Numerals.{add-one}
 use native.Mathlib.Omega.{arith}
 use borrow.Author.Needs.{needs}
 use lib.ListN.{length, length-set}
-use Rattle.blit_line.specs.Line.{copied}
-use Rattle.blit_line.proofs.Copy.{copied-none, copied-more, copied-end}
+use Rattle.blit.specs.Line.{copied}
+use Rattle.blit.proofs.Copy.{copied-none, copied-more, copied-end}
 use Rattle.blit_line.proofs.copy_bytes.Statement.{statement}
 use Rattle.blit_line.proofs.copy_bytes.Tie as tie
 

@@ -5,9 +5,9 @@ use native.Mathlib.Omega.{arith}
 use borrow.Author.Needs.{needs}
 use lib.ListN.{length}
 use Rattle.pixel.proofs.Pixels.{length-put}
-use Rattle.blit_line.specs.Line.{straightLine}
+use Rattle.blit.specs.Line.{straightLine}
 use Rattle.blit.proofs.Runs.{step-fits}
-use Rattle.blit_line.proofs.Worker.{straight-none, straight-more, straight-end}
+use Rattle.blit.proofs.Worker.{straight-none, straight-more, straight-end}
 use Rattle.blit_line.proofs.fill_pixels.Statement.{statement}
 use Rattle.blit_line.proofs.fill_pixels.Tie as tie
 

@@ -1,7 +1,7 @@
 use mathlib.Core.Path.{_≡_, sym, ap, _∙_}
 use Prim.Native.Nat.{ℕ, _*_}
 use native.Mathlib.Omega.{arith}
-use Rattle.blit_line.specs.Line.{straightLine}
+use Rattle.blit.specs.Line.{straightLine}
 use borrow.Author.Needs.{needs}
 use Rattle.blit_line.proofs.fill_worker.Statement.{statement}
 use Rattle.blit_line.proofs.fill_worker.Tie as tie

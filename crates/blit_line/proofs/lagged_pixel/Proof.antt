@@ -1,4 +1,4 @@
-use Rattle.blit_line.proofs.Worker.{lag-early, lag-late}
+use Rattle.blit.proofs.Worker.{lag-early, lag-late}
 use Rattle.blit.proofs.Runs.{step-fits}
 use native.Mathlib.Omega.{arith}
 use borrow.Author.Needs.{needs}

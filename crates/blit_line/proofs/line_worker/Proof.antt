@@ -1,4 +1,4 @@
-use Rattle.blit_line.proofs.Straight.{copy-work}
+use Rattle.blit.proofs.Straight.{copy-work}
 use borrow.Author.Needs.{needs}
 use Rattle.blit_line.proofs.line_worker.Statement.{statement}
 use Rattle.blit_line.proofs.line_worker.Tie as tie

@@ -1,7 +1,7 @@
 use mathlib.Core.Path.{_≡_, ap}
 use Prim.Native.Nat.{ℕ, _*_}
 use native.Mathlib.Omega.{arith}
-use Rattle.blit_line.proofs.Straight.{combine-work}
+use Rattle.blit.proofs.Straight.{combine-work}
 use borrow.Author.Needs.{needs}
 use Rattle.blit_line.proofs.pixel_worker.Statement.{statement}
 use Rattle.blit_line.proofs.pixel_worker.Tie as tie

@@ -1,4 +1,4 @@
-use Rattle.blit_line.proofs.Worker.{rank-down, rank-up}
+use Rattle.blit.proofs.Worker.{rank-down, rank-up}
 use native.Mathlib.Omega.{arith}
 use borrow.Author.Needs.{needs}
 use Rattle.blit_line.proofs.rank_of.Statement.{statement}

@@ -5,9 +5,9 @@ use native.Mathlib.Omega.{arith}
 use borrow.Author.Needs.{needs}
 use lib.ListN.{length}
 use Rattle.pixel.proofs.Pixels.{length-put}
-use Rattle.blit_line.specs.Line.{workLine}
+use Rattle.blit.specs.Line.{workLine}
 use Rattle.blit.proofs.Runs.{step-fits}
-use Rattle.blit_line.proofs.Worker.{work-none, work-more, work-end}
+use Rattle.blit.proofs.Worker.{work-none, work-more, work-end}
 use Rattle.blit_line.proofs.smear_pixels.Statement.{statement}
 use Rattle.blit_line.proofs.smear_pixels.Tie as tie
 

@@ -15,10 +15,10 @@ use Rattle.pixel.specs.Pixel.{getPixel, putPixel}
 use Rattle.pixel.specs.Raster.{raster}
 use Rattle.pixel.proofs.Pixels.{get-put-above, get-put-below}
 use Rattle.pixel.proofs.Raster.{copies}
 use Rattle.blit.specs.Blit.{pixels}
-use Rattle.blit_line.specs.Line.{rank, spot, lagged, workLine, straightLine, copied}
+use Rattle.blit.specs.Line.{rank, spot, lagged, workLine, straightLine, copied}
 use Rattle.blit.proofs.Runs.{pixels-append, pixels-ext, step-fits}
-use Rattle.blit_line.proofs.Copy.{straight-copied}
+use Rattle.blit.proofs.Copy.{straight-copied}
 
 -- ---- pixels apart may be stored in either order
 

@@ -7,9 +7,9 @@ use native.Mathlib.Omega.{arith}
 use borrow.Author.Tests.{lt-ltb, le-ltb}
 use Rattle.pixel.specs.Pixel.{getPixel, putPixel}
 use Rattle.pixel.specs.Raster.{raster}
 use Rattle.blit.specs.Blit.{pixels}
-use Rattle.blit_line.specs.Line.{rank, spot, lagged, workLine, straightLine}
+use Rattle.blit.specs.Line.{rank, spot, lagged, workLine, straightLine}
 use Rattle.blit.proofs.Runs.{step-fits}
 
 -- ---- places in the line
 

@@ -8,9 +8,9 @@ use native.Mathlib.Omega.{arith}
 use lib.ListN.{length, getD, set, length-set}
 use lib.Seq.{getD-set-other, getD-set-same}
 use Rattle.pixel.specs.Pixel.{getPixel, putPixel}
 use Rattle.blit.specs.Blit.{pixels}
 use Rattle.blit.proofs.Runs.{below-or-not}
-use Rattle.blit_line.specs.Line.{straightLine, copied}
+use Rattle.blit.specs.Line.{straightLine, copied}
 
 -- ---- byte after byte
 

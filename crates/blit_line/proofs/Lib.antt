@@ -1,3 +1,0 @@
-pub mod Worker
-pub mod Straight
-pub mod Copy
