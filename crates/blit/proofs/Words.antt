@@ -8,20 +8,20 @@ use native.Mathlib.Omega.{arith}
 use lib.Arith.{digits-div, digits-mod}
 use lib.ListN.{length, getD}
 use Rattle.blit.specs.Blit.{Blit, Source, given, positive, offset, pixels, chipLine, chipLines, chipBlit}
-use Rattle.blit.specs.Words.{perWord, lineWords, wordPixel, hostPixel, chipWord}
+use Rattle.blit.specs.Words.{perWord, wordsAcross, wordPixel, hostPixel, chipWord}
 use Rattle.blit.proofs.Runs.{length-pixels, pixels-append, pixels-ext}
 
 -- ---- words and pixels of a line, with one or two bytes to a pixel
 
 -- a word of the line starts in it
-pub word-starts : (bytes width t : ℕ) → 0 < bytes → bytes ≤ 2 → t < lineWords bytes width → t * perWord bytes < width
+pub word-starts : (bytes width t : ℕ) → 0 < bytes → bytes ≤ 2 → t < wordsAcross bytes width → t * perWord bytes < width
 word-starts zero width t p q h = absurd (omega arith)
 word-starts (suc zero) width t p q h = omega arith
 word-starts (suc (suc zero)) width t p q h = omega arith
 word-starts (suc (suc (suc n))) width t p q h = absurd (omega arith)
 
 -- the words of a line hold all its pixels
-pub words-cover : (bytes width : ℕ) → 0 < bytes → bytes ≤ 2 → width ≤ lineWords bytes width * perWord bytes
+pub words-cover : (bytes width : ℕ) → 0 < bytes → bytes ≤ 2 → width ≤ wordsAcross bytes width * perWord bytes
 words-cover zero width p q = absurd (omega arith)
 words-cover (suc zero) width p q = omega arith
 words-cover (suc (suc zero)) width p q = omega arith
@@ -44,7 +44,7 @@ hosted b words =
 
 -- word t of line j
 abbrev pub hostWord : Blit → List ℕ → ℕ → ℕ → ℕ
-hostWord b words j t = getD words (j * lineWords (b .bytes) (b .width) + t) 0
+hostWord b words j t = getD words (j * wordsAcross (b .bytes) (b .width) + t) 0
 
 pub length-word : (b : Blit) (j t word : ℕ) (m : List ℕ) → length (chipWord b j t word m) ≡ length m
 unfolding chipWord
@@ -52,10 +52,10 @@ length-word b j t word m = length-pixels _ _ _ _ _ m
 
 -- pixel i of word t is pixel t * perWord + i of the line
 word-pixel : (bytes width : ℕ) (words : List ℕ) (j t i : ℕ) → i < perWord bytes
-    → hostPixel bytes width words (t * perWord bytes + i) j ≡ wordPixel bytes (getD words (j * lineWords bytes width + t) 0) i
+    → hostPixel bytes width words (t * perWord bytes + i) j ≡ wordPixel bytes (getD words (j * wordsAcross bytes width + t) 0) i
 unfolding hostPixel
 word-pixel bytes width words j t i h =
-    ap₂ (λ (x y : ℕ). wordPixel bytes (getD words (j * lineWords bytes width + x) 0) y)
+    ap₂ (λ (x y : ℕ). wordPixel bytes (getD words (j * wordsAcross bytes width + x) 0) y)
     (digits-div t h) (digits-mod t h)
 
 -- a word that starts in the line goes on with it, as far as the line has pixels
@@ -106,7 +106,7 @@ module _ (b : Blit) (words old : List ℕ) where
 
   module _ (some : 0 < b .bytes) (few : b .bytes ≤ 2) (j t : ℕ) where
     -- a word that is not the last of its line
-    pub write-next : t + 1 < lineWords (b .bytes) (b .width)
+    pub write-next : t + 1 < wordsAcross (b .bytes) (b .width)
         → chipWord b j t (hostWord b words j t) (writing b words j t old) ≡ writing b words j (t + 1) old
     unfolding writing
     write-next h =
@@ -117,7 +117,7 @@ module _ (b : Blit) (words old : List ℕ) where
         ∙ ap (λ (n : ℕ). chipLine (hosted b words) positive j n (chipLines (hosted b words) positive j old)) all
 
     -- the last word of its line
-    pub write-line : t + 1 ≡ lineWords (b .bytes) (b .width)
+    pub write-line : t + 1 ≡ wordsAcross (b .bytes) (b .width)
         → chipWord b j t (hostWord b words j t) (writing b words j t old) ≡ writing b words (j + 1) 0 old
     unfolding writing
     write-line h =

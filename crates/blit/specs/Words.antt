@@ -11,8 +11,8 @@ abbrev pub perWord : ℕ → ℕ
 perWord bytes = 2 / bytes
 
 -- words of a line of pixels
-abbrev pub lineWords : ℕ → ℕ → ℕ
-lineWords bytes width = (width * bytes + 1) / 2
+abbrev pub wordsAcross : ℕ → ℕ → ℕ
+wordsAcross bytes width = (width * bytes + 1) / 2
 
 -- pixel i of a word, the low byte first
 unfoldable pub wordPixel : ℕ → ℕ → ℕ → ℕ
@@ -21,7 +21,7 @@ wordPixel bytes word i = getPixel bytes (word % 256 ∷ word / 256 % 256 ∷ [])
 -- the pixel that the words of a write hold for pixel i of line j
 unfoldable pub hostPixel : ℕ → ℕ → List ℕ → ℕ → ℕ → ℕ
 hostPixel bytes width words i j =
-    wordPixel bytes (getD words (j * lineWords bytes width + i / perWord bytes) 0) (i % perWord bytes)
+    wordPixel bytes (getD words (j * wordsAcross bytes width + i / perWord bytes) 0) (i % perWord bytes)
 
 -- word t of line j comes: its pixels are drawn as far as the line has them
 unfoldable pub chipWord : Blit → ℕ → ℕ → ℕ → List ℕ → List ℕ

@@ -5,7 +5,7 @@ use mathlib.Core.Bool.{true, false}
 use mathlib.Core.List.{List, [], _∷_, _++_}
 use lib.ListN.{length}
 use Rattle.record.specs.Checks.{firstOf}
-use Rattle.record.specs.Record.{entry, recordBytes, streamBytes, recordAt, recordsFrom, recordsOf}
+use Rattle.record.specs.Record.{recordWith, recordBytes, streamBytes, recordAt, recordsFrom, recordsOf}
 use Rattle.record.specs.declared.Record.{Record}
 use Rattle.pixel.specs.Pixel.{getPixel, putPixel}
 use Rattle.pixel.specs.Raster.{bitwise}
@@ -20,11 +20,11 @@ use Rattle.chip.proofs.Answers.{acceptedBy}
 
 -- the six screen records, and the nine of a command
 abbrev screenRecords : ℕ → ℕ → ℕ → ℕ → ℕ → ℕ → List Record
-screenRecords a b c d e f = entry 0x40 a ∷ entry 0x44 b ∷ entry 0x50 c ∷ entry 0x54 d ∷ entry 0x58 e ∷ entry 0x5C f ∷ []
+screenRecords a b c d e f = recordWith 0x40 a ∷ recordWith 0x44 b ∷ recordWith 0x50 c ∷ recordWith 0x54 d ∷ recordWith 0x58 e ∷ recordWith 0x5C f ∷ []
 
 abbrev commandRecords : ℕ → ℕ → ℕ → ℕ → ℕ → ℕ → ℕ → ℕ → ℕ → List Record
 commandRecords a b c d e f g h i =
-    entry 0x8008 a ∷ entry 0x800C b ∷ entry 0x8010 c ∷ entry 0x8014 d ∷ entry 0x8018 e ∷ entry 0x801C f ∷ entry 0x8020 g ∷ entry 0x8024 h ∷ entry 0x8000 i ∷ []
+    recordWith 0x8008 a ∷ recordWith 0x800C b ∷ recordWith 0x8010 c ∷ recordWith 0x8014 d ∷ recordWith 0x8018 e ∷ recordWith 0x801C f ∷ recordWith 0x8020 g ∷ recordWith 0x8024 h ∷ recordWith 0x8000 i ∷ []
 
 -- "0, 50h, 0, 0, 0, 0; then 0Ch, 0, 190Ah, A0h, 63h, 95h, 0, 1, 1"
 abbrev pub b1 : List Record
@@ -75,18 +75,18 @@ waitingChip = record { screen = newChip .screen; blit = newChip .blit; due = rec
 
 -- the chip with an operation set
 abbrev armed : ℕ → Chip
-armed command = chipAfter newChip (entry 0x8008 command)
+armed command = chipAfter newChip (recordWith 0x8008 command)
 
-pub refusals-hold : (refusal 8 newChip (entry 0x60 0) ≡ 20)
-    × (refusal 8 newChip (entry 0x8018 0x400) ≡ 21)
-    × (refusal 8 (armed 1) (entry 0x8000 1) ≡ 21)
-    × (refusal 8 (chipAfter (armed 0xC) (entry 0x8010 8)) (entry 0x8000 1) ≡ 22)
-    × (refusal 8 newChip (entry 0x10000 0) ≡ 23)
-    × (refusal 8 waitingChip (entry 0x10000 0x10000) ≡ 21)
-    × (refusal 8 waitingChip (entry 0x8018 0x400) ≡ 21)
-    × (refusal 8 waitingChip (entry 0x8018 0x3FF) ≡ 23)
-    × (refusal 8 waitingChip (entry 0x10000 0xFFFF) ≡ 0)
-    × (refusal 8 (chipAfter (armed 0xC) (entry 0x8010 7)) (entry 0x8000 1) ≡ 0)
+pub refusals-hold : (refusal 8 newChip (recordWith 0x60 0) ≡ 20)
+    × (refusal 8 newChip (recordWith 0x8018 0x400) ≡ 21)
+    × (refusal 8 (armed 1) (recordWith 0x8000 1) ≡ 21)
+    × (refusal 8 (chipAfter (armed 0xC) (recordWith 0x8010 8)) (recordWith 0x8000 1) ≡ 22)
+    × (refusal 8 newChip (recordWith 0x10000 0) ≡ 23)
+    × (refusal 8 waitingChip (recordWith 0x10000 0x10000) ≡ 21)
+    × (refusal 8 waitingChip (recordWith 0x8018 0x400) ≡ 21)
+    × (refusal 8 waitingChip (recordWith 0x8018 0x3FF) ≡ 23)
+    × (refusal 8 waitingChip (recordWith 0x10000 0xFFFF) ≡ 0)
+    × (refusal 8 (chipAfter (armed 0xC) (recordWith 0x8010 7)) (recordWith 0x8000 1) ≡ 0)
 unfolding firstOf listed fits screenAfter blitAfter startable span within admitRows refusal dueAfter dueOf chipAfter newChip
 refusals-hold = (refl, refl, refl, refl, refl, refl, refl, refl, refl, refl)
 
@@ -94,7 +94,7 @@ refusals-hold = (refl, refl, refl, refl, refl, refl, refl, refl, refl, refl)
 
 -- a fill of three pixels of one byte, colour 9, from address a on
 abbrev three : ℕ → List Record
-three a = entry 0x8008 0xC ∷ entry 0x8010 a ∷ entry 0x8018 2 ∷ entry 0x8024 9 ∷ entry 0x8000 1 ∷ []
+three a = recordWith 0x8008 0xC ∷ recordWith 0x8010 a ∷ recordWith 0x8018 2 ∷ recordWith 0x8024 9 ∷ recordWith 0x8000 1 ∷ []
 
 pub fills-hold : (fits 0x8000 0x40001 ≡ true)
     × (fits 0x8000 0x20001 ≡ false)

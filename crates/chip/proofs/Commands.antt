@@ -11,13 +11,13 @@ use lib.Dec.{eqb}
 use lib.ListN.{length, getD}
 use borrow.Author.Tests.{eq-eqb, ne-eqb, le-leb, lt-ltb, le-ltb}
 use Rattle.record.specs.Checks.{firstOf}
-use Rattle.record.specs.Record.{entry}
+use Rattle.record.specs.Record.{recordWith}
 use Rattle.record.specs.declared.Record.{Record}
 use Rattle.record.proofs.Choice.{and-left, and-right, below-or-not}
 use Rattle.screen.specs.Fields.{upTo, edgesFit, originFits, valuesFit}
 use Rattle.screen.specs.declared.ScreenValues.{ScreenValues}
 use Rattle.blit.specs.Blit.{Blit, positive, chipBlit}
-use Rattle.blit.specs.Words.{lineWords, hostPixel, chipWord}
+use Rattle.blit.specs.Words.{wordsAcross, hostPixel, chipWord}
 use Rattle.blit.proofs.Words.{hostWord, writing, write-first, write-last, write-next, write-line}
 use Rattle.chip.specs.Register.{controlFits, commandFits, listed, fits, screenAfter, blitAfter}
 use Rattle.chip.specs.Start.{operation, bytesOf, sourceOf, destinationOf, lineOf, widthOf, heightOf, foregroundOf, startable, within, writeOf, started}
@@ -32,18 +32,18 @@ use Rattle.chip.proofs.Admits.{not-started}
 
 -- a register write that starts nothing
 pub write-taken : (m : ℕ) (c : Chip) (n v : ℕ) → listed n ≡ true → fits n v ≡ true → eqb n 0x8000 ≡ false → eqb n 0x10000 ≡ false → c .due .any ≡ false
-    → refusal m c (entry n v) ≡ 0
+    → refusal m c (recordWith n v) ≡ 0
 unfolding refusal admitRows firstOf
 write-taken m c n v l f s d i = rw (l, f, s, d, i)
 
 -- a start
-pub start-taken : (m : ℕ) (c : Chip) (v : ℕ) → fits 0x8000 v ≡ true → v % 2 ≡ 1 → startable (written c (entry 0x8000 v)) ≡ true
-    → within m (written c (entry 0x8000 v)) ≡ true → c .due .any ≡ false → refusal m c (entry 0x8000 v) ≡ 0
+pub start-taken : (m : ℕ) (c : Chip) (v : ℕ) → fits 0x8000 v ≡ true → v % 2 ≡ 1 → startable (written c (recordWith 0x8000 v)) ≡ true
+    → within m (written c (recordWith 0x8000 v)) ≡ true → c .due .any ≡ false → refusal m c (recordWith 0x8000 v) ≡ 0
 unfolding refusal admitRows firstOf listed
 start-taken m c v f o s w i = rw (f, eq-eqb (v % 2) 1 o, s, w, i)
 
 -- a data word that is due
-pub word-taken : (m : ℕ) (c : Chip) (v : ℕ) → v < 65536 → c .due .any ≡ true → refusal m c (entry 0x10000 v) ≡ 0
+pub word-taken : (m : ℕ) (c : Chip) (v : ℕ) → v < 65536 → c .due .any ≡ true → refusal m c (recordWith 0x10000 v) ≡ 0
 unfolding refusal admitRows firstOf listed fits
 word-taken m c v h d = rw (le-leb v 65535 (omega arith), d)
 
@@ -51,8 +51,8 @@ word-taken m c v h d = rw (le-leb v 65535 (omega arith), d)
 
 abbrev pub screenWrites : ScreenValues → List Record
 screenWrites v =
-    entry 0x40 (v .main .start) ∷ entry 0x44 (v .main .offset) ∷ entry 0x50 (v .window .start) ∷ entry 0x54 (v .window .offset)
-    ∷ entry 0x58 (v .x) ∷ entry 0x5C (v .y) ∷ []
+    recordWith 0x40 (v .main .start) ∷ recordWith 0x44 (v .main .offset) ∷ recordWith 0x50 (v .window .start) ∷ recordWith 0x54 (v .window .offset)
+    ∷ recordWith 0x58 (v .x) ∷ recordWith 0x5C (v .y) ∷ []
 
 -- a chip that waits for no data
 abbrev pub quiet : ScreenValues → Registers → Chip
@@ -78,8 +78,8 @@ module _ (m : ℕ) (c : Chip) (v : ScreenValues) (old : List ℕ) (idle : c .due
 -- the nine blit registers in the stream's order, the start last
 abbrev pub blitWrites : Registers → List Record
 blitWrites b =
-    entry 0x8008 (b .command) ∷ entry 0x800C (b .source) ∷ entry 0x8010 (b .destination) ∷ entry 0x8014 (b .offset) ∷ entry 0x8018 (b .width)
-    ∷ entry 0x801C (b .height) ∷ entry 0x8020 (b .background) ∷ entry 0x8024 (b .foreground) ∷ entry 0x8000 (b .control) ∷ []
+    recordWith 0x8008 (b .command) ∷ recordWith 0x800C (b .source) ∷ recordWith 0x8010 (b .destination) ∷ recordWith 0x8014 (b .offset) ∷ recordWith 0x8018 (b .width)
+    ∷ recordWith 0x801C (b .height) ∷ recordWith 0x8020 (b .background) ∷ recordWith 0x8024 (b .foreground) ∷ recordWith 0x8000 (b .control) ∷ []
 
 -- each value is in its field, and 8000h has bit 0 set
 pub record InFields (b : Registers) : Type 0 where
@@ -105,13 +105,13 @@ module _ (m : ℕ) (b : Registers) (f : InFields b) (can : startable b ≡ true)
   -- 8000h, once the other eight are written
   last-write : (s : ScreenValues) (k : ℕ) (old : List ℕ)
       → let c = quiet s (record { control = k; command = b .command; source = b .source; destination = b .destination; offset = b .offset; width = b .width; height = b .height; background = b .background; foreground = b .foreground }) in
-      Plays m c (entry 0x8000 (b .control) ∷ []) old (startedChip s b) (started b old)
+      Plays m c (recordWith 0x8000 (b .control) ∷ []) old (startedChip s b) (started b old)
   unfolding fits chipAfter screenAfter blitAfter dueOf effect
   last-write s k old =
       subst
       (λ (t : Bool). Plays m
       (quiet s (record { control = k; command = b .command; source = b .source; destination = b .destination; offset = b .offset; width = b .width; height = b .height; background = b .background; foreground = b .foreground }))
-      (entry 0x8000 (b .control) ∷ []) old
+      (recordWith 0x8000 (b .control) ∷ []) old
       (record { screen = s; blit = b; due = record { any = t && eqb (operation b) 0; line = 0; word = 0 } })
       (cond t (started b old) old))
       (eq-eqb (b .control % 2) 1 (f .starts))
@@ -138,7 +138,7 @@ waiting s b j t = record { screen = s; blit = b; due = record { any = true; line
 
 unfoldable pub wordWrites : List ℕ → List Record
 wordWrites [] = []
-wordWrites (w ∷ ws) = entry 0x10000 w ∷ wordWrites ws
+wordWrites (w ∷ ws) = recordWith 0x10000 w ∷ wordWrites ws
 
 unfoldable pub AllWords : List ℕ → Type 0
 AllWords [] = Unit {0}
@@ -147,7 +147,7 @@ AllWords (w ∷ ws) = (w < 65536) × AllWords ws
 -- one word, with the records behind it
 word-played : (m : ℕ) (s : ScreenValues) (b : Registers) (j t w : ℕ) (rs : List Record) (old : List ℕ) {c : Chip} {new : List ℕ} → w < 65536
     → Plays m (record { screen = s; blit = b; due = dueAfter b (record { any = true; line = j; word = t }) }) rs (chipWord (writeOf b (λ i k. 0)) j t w old) c new
-    → Plays m (waiting s b j t) (entry 0x10000 w ∷ rs) old c new
+    → Plays m (waiting s b j t) (recordWith 0x10000 w ∷ rs) old c new
 unfolding chipAfter screenAfter blitAfter effect
 word-played m s b j t w rs old h p = plays-cons (word-taken m _ w h refl) p
 
@@ -156,31 +156,31 @@ module _ (b : Registers) (j t : ℕ) where
   abbrev due-now : Due
   due-now = record { any = true; line = j; word = t }
 
-  same-line : t + 1 < lineWords (bytesOf b) (widthOf b) → dueAfter b due-now ≡ record { any = true; line = j; word = t + 1 }
+  same-line : t + 1 < wordsAcross (bytesOf b) (widthOf b) → dueAfter b due-now ≡ record { any = true; line = j; word = t + 1 }
   unfolding dueAfter
   same-line h = rw (lt-ltb _ _ h)
 
-  next-line : lineWords (bytesOf b) (widthOf b) ≤ t + 1 → j + 1 < heightOf b → dueAfter b due-now ≡ record { any = true; line = j + 1; word = 0 }
+  next-line : wordsAcross (bytesOf b) (widthOf b) ≤ t + 1 → j + 1 < heightOf b → dueAfter b due-now ≡ record { any = true; line = j + 1; word = 0 }
   unfolding dueAfter
   next-line h k = rw (le-ltb _ _ h, lt-ltb _ _ k)
 
-  last-word : lineWords (bytesOf b) (widthOf b) ≤ t + 1 → heightOf b ≤ j + 1 → dueAfter b due-now ≡ noData
+  last-word : wordsAcross (bytesOf b) (widthOf b) ≤ t + 1 → heightOf b ≤ j + 1 → dueAfter b due-now ≡ noData
   unfolding dueAfter
   last-word h k = rw (le-ltb _ _ h, le-ltb _ _ k)
 
 -- every line has words
-some-words : (b : Registers) → 0 < lineWords (bytesOf b) (widthOf b)
+some-words : (b : Registers) → 0 < wordsAcross (bytesOf b) (widthOf b)
 some-words b =
     let p : 1 * 1 ≤ widthOf b * bytesOf b = mul-le-mul {n₁ = 1} {m₁ = 1} {n₂ = widthOf b} {m₂ = bytesOf b} (omega arith) (omega arith) in
     omega arith
 
 module _ (m : ℕ) (s : ScreenValues) (b : Registers) (words old : List ℕ) where
   abbrev per : ℕ
-  per = lineWords (bytesOf b) (widthOf b)
+  per = wordsAcross (bytesOf b) (widthOf b)
 
   -- the memory once all words before word t of line j have come
-  abbrev drawn : ℕ → ℕ → List ℕ
-  drawn j t = writing (writeOf b (λ i k. 0)) words j t old
+  abbrev so-far : ℕ → ℕ → List ℕ
+  so-far j t = writing (writeOf b (λ i k. 0)) words j t old
 
   -- the words ws that are left from word t of line j on
   record Left (ws : List ℕ) (j t : ℕ) : Type 0 where
@@ -225,15 +225,15 @@ module _ (m : ℕ) (s : ScreenValues) (b : Registers) (words old : List ℕ) whe
     abbrev blank : Blit
     blank = writeOf b (λ i k. 0)
 
-    hosts : chipWord blank j t w (drawn j t) ≡ chipWord blank j t (hostWord blank words j t) (drawn j t)
+    hosts : chipWord blank j t w (so-far j t) ≡ chipWord blank j t (hostWord blank words j t) (so-far j t)
     unfolding writeOf
-    hosts = ap (λ (x : ℕ). chipWord blank j t x (drawn j t)) (first-left w ws j t l)
+    hosts = ap (λ (x : ℕ). chipWord blank j t x (so-far j t)) (first-left w ws j t l)
 
-    drawn-on : t + 1 < per → chipWord blank j t w (drawn j t) ≡ drawn j (t + 1)
+    drawn-on : t + 1 < per → chipWord blank j t w (so-far j t) ≡ so-far j (t + 1)
     unfolding writeOf
     drawn-on p = hosts ∙ write-next blank words old (omega arith) (omega arith) j t p
 
-    drawn-line : per ≤ t + 1 → chipWord blank j t w (drawn j t) ≡ drawn (j + 1) 0
+    drawn-line : per ≤ t + 1 → chipWord blank j t w (so-far j t) ≡ so-far (j + 1) 0
     unfolding writeOf
     drawn-line p = hosts ∙ write-line blank words old (omega arith) (omega arith) j t (omega (arith, l .word))
 
@@ -246,16 +246,16 @@ module _ (m : ℕ) (s : ScreenValues) (b : Registers) (words old : List ℕ) whe
   at d = record { screen = s; blit = b; due = d }
 
   -- the last word of the last line leaves none
-  finished : (ws : List ℕ) (j : ℕ) → length ws ≡ 0 → j + 1 ≡ heightOf b → Plays m (at noData) (wordWrites ws) (drawn (j + 1) 0) (quiet s b) (drawn (heightOf b) 0)
+  finished : (ws : List ℕ) (j : ℕ) → length ws ≡ 0 → j + 1 ≡ heightOf b → Plays m (at noData) (wordWrites ws) (so-far (j + 1) 0) (quiet s b) (so-far (heightOf b) 0)
   finished ws j e h =
-      subst (λ (rs : List Record). Plays m (at noData) rs (drawn (j + 1) 0) (quiet s b) (drawn (heightOf b) 0)) (sym (no-words ws e))
-      (subst (λ (n : ℕ). Plays m (at noData) [] (drawn (j + 1) 0) (quiet s b) (drawn n 0)) h (plays-none m (at noData) (drawn (j + 1) 0)))
+      subst (λ (rs : List Record). Plays m (at noData) rs (so-far (j + 1) 0) (quiet s b) (so-far (heightOf b) 0)) (sym (no-words ws e))
+      (subst (λ (n : ℕ). Plays m (at noData) [] (so-far (j + 1) 0) (quiet s b) (so-far n 0)) h (plays-none m (at noData) (so-far (j + 1) 0)))
 
-  words-left : (ws : List ℕ) (j t : ℕ) → AllWords ws → Left ws j t → Plays m (waiting s b j t) (wordWrites ws) (drawn j t) (quiet s b) (drawn (heightOf b) 0)
+  words-left : (ws : List ℕ) (j t : ℕ) → AllWords ws → Left ws j t → Plays m (waiting s b j t) (wordWrites ws) (so-far j t) (quiet s b) (so-far (heightOf b) 0)
   unfolding wordWrites AllWords
   words-left [] j t a l = absurd (not-done j t l)
   words-left (w ∷ ws) j t a l =
-      word-played m s b j t w (wordWrites ws) (drawn j t) (a .0)
+      word-played m s b j t w (wordWrites ws) (so-far j t) (a .0)
       (⊎-elim
       (λ p. plays-from (ap at (same-line b j t p)) (drawn-on w ws j t l p) (words-left ws j (t + 1) (a .1) (stay w ws j t l p)))
       (λ p. ⊎-elim
@@ -265,11 +265,11 @@ module _ (m : ℕ) (s : ScreenValues) (b : Registers) (words old : List ℕ) whe
       (below-or-not (t + 1) per))
 
 -- all words of a write, from its start on: the chip waits for no more, and the memory has the whole write
-pub words-played : (m : ℕ) (s : ScreenValues) (b : Registers) (words old : List ℕ) → AllWords words → length words ≡ heightOf b * lineWords (bytesOf b) (widthOf b)
+pub words-played : (m : ℕ) (s : ScreenValues) (b : Registers) (words old : List ℕ) → AllWords words → length words ≡ heightOf b * wordsAcross (bytesOf b) (widthOf b)
     → Plays m (waiting s b 0 0) (wordWrites words) old (quiet s b) (chipBlit (writeOf b (hostPixel (bytesOf b) (widthOf b) words)) positive old)
 unfolding writeOf
 words-played m s b words old a e =
-    let per : ℕ = lineWords (bytesOf b) (widthOf b) in
+    let per : ℕ = wordsAcross (bytesOf b) (widthOf b) in
     let blank : Blit = writeOf b (λ i k. 0) in
     let all : Left m s b words old words 0 0 =
     record {
@@ -292,7 +292,7 @@ module _ (m : ℕ) (b : Registers) (f : InFields b) (can : startable b ≡ true)
       (ne-eqb (operation b) 0 some) (blit-played m b f can inside c old idle)
 
   -- a write and its words
-  pub write-played : operation b ≡ 0 → (words : List ℕ) → AllWords words → length words ≡ heightOf b * lineWords (bytesOf b) (widthOf b)
+  pub write-played : operation b ≡ 0 → (words : List ℕ) → AllWords words → length words ≡ heightOf b * wordsAcross (bytesOf b) (widthOf b)
       → Plays m c (blitWrites b ++ wordWrites words) old (quiet (c .screen) b) (chipBlit (writeOf b (hostPixel (bytesOf b) (widthOf b) words)) positive old)
   write-played e words a n =
       plays-append (blit-played m b f can inside c old idle)

@@ -5,7 +5,7 @@ use mathlib.Core.Bool.{Bool, true, false, not, _&&_, _||_, cond}
 use lib.Dec.{ltb, eqb}
 use Rattle.record.specs.Checks.{Row, row, firstOf}
 use Rattle.record.specs.declared.Record.{Record}
-use Rattle.blit.specs.Words.{lineWords, chipWord}
+use Rattle.blit.specs.Words.{wordsAcross, chipWord}
 use Rattle.chip.specs.Register.{listed, fits, screenAfter, blitAfter}
 use Rattle.chip.specs.Start.{operation, bytesOf, widthOf, heightOf, startable, within, writeOf, started}
 use Rattle.chip.specs.declared.Registers.{Registers}
@@ -44,7 +44,7 @@ noData = record { any = false; line = 0; word = 0 }
 -- the next word that is due once one has come: of the same line, of the next line, or none
 unfoldable pub dueAfter : Registers → Due → Due
 dueAfter b d =
-    cond (ltb (d .word + 1) (lineWords (bytesOf b) (widthOf b)))
+    cond (ltb (d .word + 1) (wordsAcross (bytesOf b) (widthOf b)))
     (record { any = true; line = d .line; word = d .word + 1 })
     (cond (ltb (d .line + 1) (heightOf b)) (record { any = true; line = d .line + 1; word = 0 }) noData)
 

@@ -3,7 +3,7 @@ ghost use mathlib.Core.Path.{_≡_};
 ghost use mathlib.Core.Bool.{false, cond};
 ghost use Prim.Native.Nat.{_≤_};
 ghost use Rattle.record.specs.Record.{recordsOf};
-ghost use Rattle.blit.specs.Words.{lineWords};
+ghost use Rattle.blit.specs.Words.{wordsAcross};
 ghost use Rattle.chip.specs.Register.{listed, fits, screenAfter, blitAfter};
 ghost use Rattle.chip.specs.Start.{operation, rasterCode, bytesOf, sourceOf, destinationOf, lineOf, widthOf, heightOf, foregroundOf, startable, span, forward, backward, within};
 ghost use Rattle.chip.specs.Admit.{isData, starts, refusal, dueAfter, dueOf, chipAfter};
@@ -162,7 +162,7 @@ pub fn foreground_of(b: Registers) -> u16
 
 // Data words of a line.
 fn words_of(b: Registers) -> u64
-    ensures { λ r. ⌜ (r ≡ lineWords (bytesOf b) (widthOf b)) × (r ≤ 1024) ⌝ }
+    ensures { λ r. ⌜ (r ≡ wordsAcross (bytesOf b) (widthOf b)) × (r ≤ 1024) ⌝ }
 {
     (width_of(b) * bytes_of(b) + 1) / 2
 }

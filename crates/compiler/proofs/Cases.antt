@@ -4,7 +4,7 @@ use mathlib.Core.Path.{_≡_, refl}
 use mathlib.Core.List.{List, [], _∷_, _++_, map}
 use lib.ListN.{replicate, take}
 use Rattle.record.specs.Bytes.{allZero}
-use Rattle.record.specs.Record.{entry, recordBytes, streamBytes}
+use Rattle.record.specs.Record.{recordWith, recordBytes, streamBytes}
 use Rattle.record.specs.Checks.{firstOf}
 use Rattle.pixel.specs.Depth.{isDepth}
 use Rattle.screen.specs.Image.{imageEnd, startOf}
@@ -79,17 +79,17 @@ times zero l = []
 times (suc n) l = l ++ times n l
 
 abbrev screenBytes : ℕ → List ℕ
-screenBytes offset = streamBytes (entry 0x40 0 ∷ entry 0x44 offset ∷ entry 0x50 0 ∷ entry 0x54 0 ∷ entry 0x58 0 ∷ entry 0x5C 0 ∷ [])
+screenBytes offset = streamBytes (recordWith 0x40 0 ∷ recordWith 0x44 offset ∷ recordWith 0x50 0 ∷ recordWith 0x54 0 ∷ recordWith 0x58 0 ∷ recordWith 0x5C 0 ∷ [])
 
 -- B1's nine records, and those of the move and of the write with its words
 abbrev fillBytes : List ℕ
-fillBytes = streamBytes (entry 0x8008 0xC ∷ entry 0x800C 0 ∷ entry 0x8010 0x190A ∷ entry 0x8014 0xA0 ∷ entry 0x8018 0x63 ∷ entry 0x801C 0x95 ∷ entry 0x8020 0 ∷ entry 0x8024 1 ∷ entry 0x8000 1 ∷ [])
+fillBytes = streamBytes (recordWith 0x8008 0xC ∷ recordWith 0x800C 0 ∷ recordWith 0x8010 0x190A ∷ recordWith 0x8014 0xA0 ∷ recordWith 0x8018 0x63 ∷ recordWith 0x801C 0x95 ∷ recordWith 0x8020 0 ∷ recordWith 0x8024 1 ∷ recordWith 0x8000 1 ∷ [])
 
 abbrev moveBytes : List ℕ
-moveBytes = streamBytes (entry 0x8008 0xC0003 ∷ entry 0x800C 6 ∷ entry 0x8010 7 ∷ entry 0x8014 0xA0 ∷ entry 0x8018 6 ∷ entry 0x801C 0 ∷ entry 0x8020 0 ∷ entry 0x8024 0 ∷ entry 0x8000 1 ∷ [])
+moveBytes = streamBytes (recordWith 0x8008 0xC0003 ∷ recordWith 0x800C 6 ∷ recordWith 0x8010 7 ∷ recordWith 0x8014 0xA0 ∷ recordWith 0x8018 6 ∷ recordWith 0x801C 0 ∷ recordWith 0x8020 0 ∷ recordWith 0x8024 0 ∷ recordWith 0x8000 1 ∷ [])
 
 abbrev writeBytes : List ℕ
-writeBytes = streamBytes (entry 0x8008 0xC0000 ∷ entry 0x800C 0 ∷ entry 0x8010 1 ∷ entry 0x8014 0xA0 ∷ entry 0x8018 2 ∷ entry 0x801C 1 ∷ entry 0x8020 0 ∷ entry 0x8024 0 ∷ entry 0x8000 1 ∷ entry 0x10000 0x201 ∷ entry 0x10000 3 ∷ entry 0x10000 0x504 ∷ entry 0x10000 6 ∷ [])
+writeBytes = streamBytes (recordWith 0x8008 0xC0000 ∷ recordWith 0x800C 0 ∷ recordWith 0x8010 1 ∷ recordWith 0x8014 0xA0 ∷ recordWith 0x8018 2 ∷ recordWith 0x801C 1 ∷ recordWith 0x8020 0 ∷ recordWith 0x8024 0 ∷ recordWith 0x8000 1 ∷ recordWith 0x10000 0x201 ∷ recordWith 0x10000 3 ∷ recordWith 0x10000 0x504 ∷ recordWith 0x10000 6 ∷ [])
 
 abbrev fourWords : List ℕ
 fourWords = 0x201 ∷ 3 ∷ 0x504 ∷ 6 ∷ []

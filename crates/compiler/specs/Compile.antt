@@ -56,9 +56,9 @@ refusalOf m bytes list words room =
     let s = fieldsOf bytes in
     let commands = partsOf commandSize list in
     let first = firstOf (screenRows m bytes ++ listRows commandSize s list) in
-    let drawn = firstRefusal s 0 (length words) commands in
+    let inList = firstRefusal s 0 (length words) commands in
     cond (not (eqb first 0)) (record { number = first; place = 0 })
-    (cond (not (eqb (drawn .number) 0)) drawn
+    (cond (not (eqb (inList .number) 0)) inList
     (record { number = firstOf (endRows s commands words room); place = 0 }))
 
 -- what compiling gives back: number, place, the stream's length in bytes, depth, rotation and flag

@@ -2,7 +2,7 @@
 use Prim.Native.Nat.{ℕ, zero, suc, _*_, _/_}
 use mathlib.Core.List.{List, [], _∷_, _++_}
 use lib.ListN.{length, take, drop}
-use Rattle.record.specs.Record.{entry}
+use Rattle.record.specs.Record.{recordWith}
 use Rattle.record.specs.declared.Record.{Record}
 use Rattle.screen.specs.Values.{valuesOf}
 use Rattle.screen.specs.declared.ScreenValues.{ScreenValues}
@@ -24,7 +24,7 @@ partsOf size list = partsFrom size list 0 (length list / size)
 unfoldable pub recordsWith : List ℕ → List ℕ → List Record
 recordsWith [] vs = []
 recordsWith (n ∷ ns) [] = []
-recordsWith (n ∷ ns) (v ∷ vs) = entry n v ∷ recordsWith ns vs
+recordsWith (n ∷ ns) (v ∷ vs) = recordWith n v ∷ recordsWith ns vs
 
 -- main start, main offset, window start, window offset, X, Y (002 sections 7.4 and 8.1)
 abbrev pub screenRegisters : List ℕ
@@ -39,7 +39,7 @@ screenRecords s = recordsWith screenRegisters (sixValues (valuesOf s))
 -- a data word is a record with number 10000h
 unfoldable pub dataRecords : List ℕ → List Record
 dataRecords [] = []
-dataRecords (w ∷ ws) = entry 0x10000 w ∷ dataRecords ws
+dataRecords (w ∷ ws) = recordWith 0x10000 w ∷ dataRecords ws
 
 -- a command's nine records, then a write's data words
 unfoldable pub commandRecords : Screen → Command → List ℕ → List Record

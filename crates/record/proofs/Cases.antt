@@ -4,7 +4,7 @@ use mathlib.Core.Bool.{true, false}
 use mathlib.Core.List.{List, [], _∷_}
 use Prim.Native.Nat.{ℕ}
 use Rattle.record.specs.Bytes.{byteAt, u16At, u32At, fourBytes, allZero, over}
-use Rattle.record.specs.Record.{entry, recordBytes, streamBytes, recordAt, recordsFrom, recordsOf}
+use Rattle.record.specs.Record.{recordWith, recordBytes, streamBytes, recordAt, recordsFrom, recordsOf}
 use Rattle.record.specs.Checks.{row, firstOf}
 
 pub number-cases : (u16At (9 ∷ 0x34 ∷ 0x12 ∷ []) 1 ≡ 0x1234)
@@ -18,9 +18,9 @@ unfolding allZero
 byte-cases = (refl, refl, refl)
 
 -- the records of main start 0 and a host data word 0201h
-pub record-cases : (recordBytes (entry 0x40 0) ≡ 0x40 ∷ 0 ∷ 0 ∷ 0 ∷ 0 ∷ 0 ∷ 0 ∷ 0 ∷ [])
-    × (streamBytes (entry 0x40 0 ∷ entry 0x10000 0x201 ∷ []) ≡ 0x40 ∷ 0 ∷ 0 ∷ 0 ∷ 0 ∷ 0 ∷ 0 ∷ 0 ∷ 0 ∷ 0 ∷ 1 ∷ 0 ∷ 1 ∷ 2 ∷ 0 ∷ 0 ∷ [])
-    × (recordsOf (0x40 ∷ 0 ∷ 0 ∷ 0 ∷ 0 ∷ 0 ∷ 0 ∷ 0 ∷ 0 ∷ 0 ∷ 1 ∷ 0 ∷ 1 ∷ 2 ∷ 0 ∷ 0 ∷ []) ≡ entry 0x40 0 ∷ entry 0x10000 0x201 ∷ [])
+pub record-cases : (recordBytes (recordWith 0x40 0) ≡ 0x40 ∷ 0 ∷ 0 ∷ 0 ∷ 0 ∷ 0 ∷ 0 ∷ 0 ∷ [])
+    × (streamBytes (recordWith 0x40 0 ∷ recordWith 0x10000 0x201 ∷ []) ≡ 0x40 ∷ 0 ∷ 0 ∷ 0 ∷ 0 ∷ 0 ∷ 0 ∷ 0 ∷ 0 ∷ 0 ∷ 1 ∷ 0 ∷ 1 ∷ 2 ∷ 0 ∷ 0 ∷ [])
+    × (recordsOf (0x40 ∷ 0 ∷ 0 ∷ 0 ∷ 0 ∷ 0 ∷ 0 ∷ 0 ∷ 0 ∷ 0 ∷ 1 ∷ 0 ∷ 1 ∷ 2 ∷ 0 ∷ 0 ∷ []) ≡ recordWith 0x40 0 ∷ recordWith 0x10000 0x201 ∷ [])
 unfolding recordBytes streamBytes recordAt recordsFrom recordsOf
 record-cases = (refl, refl, refl)
 

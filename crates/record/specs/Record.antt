@@ -6,8 +6,8 @@ use Rattle.record.specs.Bytes.{u32At, fourBytes}
 use Rattle.record.specs.declared.Record.{Record}
 
 -- a record of a number and a value
-abbrev pub entry : ℕ → ℕ → Record
-entry n v = record { number = n; value = v }
+abbrev pub recordWith : ℕ → ℕ → Record
+recordWith n v = record { number = n; value = v }
 
 -- the eight bytes of a record
 unfoldable pub recordBytes : Record → List ℕ

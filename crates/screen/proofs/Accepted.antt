@@ -150,7 +150,7 @@ module _ (m : ℕ) (s : Screen) (a : Accepted m s) where
       aligned (perDword (s .depth)) (s .depth) (a .whole) (mainImage s) (a .base) (main-line s) (a .view) (main-sides .0) (main-sides .1)
 
 -- ---- an accepted window: its place and width in the view, x and w of the view's v dwords
-pub record Windowed (m : ℕ) (s : Screen) : Type 0 where
+pub record WindowLimits (m : ℕ) (s : Screen) : Type 0 where
   pub x : ℕ
   pub w : ℕ
   pub v : ℕ
@@ -181,9 +181,9 @@ window-aligned : (m : ℕ) (s : Screen) → Accepted m s → windowImage s .base
 unfolding windowImage
 window-aligned m s a hb hw w h = aligned (perDword (s .depth)) (s .depth) (a .whole) (windowImage s) hb refl hw w h
 
-pub windowed : (m : ℕ) (s : Screen) → firstOf (fieldRows m s) ≡ 0 → s .flag ≡ 1 → Windowed m s
+pub window-limits : (m : ℕ) (s : Screen) → firstOf (fieldRows m s) ≡ 0 → s .flag ≡ 1 → WindowLimits m s
 unfolding fieldRows AllPass
-windowed m s e on =
+window-limits m s e on =
     let a = accepted m s e in
     let k = perDword (s .depth) in
     let p = all-pass m s e .1 .1 .1 .1 .1 in
@@ -216,6 +216,6 @@ windowed m s e on =
 pub window-sides : (m : ℕ) (s : Screen) → firstOf (fieldRows m s) ≡ 0 → s .flag ≡ 1 → (0 < windowImage s .width) × (0 < windowImage s .height) × (windowImage s .width ≤ 1024) × (windowImage s .height ≤ 1024)
 unfolding windowImage
 window-sides m s e on =
-    let w = windowed m s e on in
+    let w = window-limits m s e on in
     let i = main-sides m s (accepted m s e) in
     (w .some, w .high, omega arith, omega arith)

@@ -18,7 +18,7 @@ use Rattle.screen.specs.declared.Image.{Image}
 use Rattle.screen.specs.declared.Origin.{Origin}
 use Rattle.screen.specs.declared.ScreenValues.{ScreenValues}
 use Rattle.screen.specs.declared.Screen.{Screen}
-use Rattle.screen.proofs.Accepted.{Aligned, accepted, main-sides, main-aligned, main-line, windowed, window-line, window-sides}
+use Rattle.screen.proofs.Accepted.{Aligned, accepted, main-sides, main-aligned, main-line, window-limits, window-line, window-sides}
 use Rattle.screen.proofs.Starts.{start-below}
 use Rattle.screen.proofs.Spans.{Span, across, down, start-fits, end-fits}
 use Rattle.screen.proofs.Values.{main-value, no-window, no-x, no-y, window-value}
@@ -106,7 +106,7 @@ module _ (m : ℕ) (s : Screen) (h : m ≤ 262144) (e : firstOf (fieldRows m s) 
   fits-on : s .flag ≡ 1 → InFields (valuesOf s)
   fits-on on =
       let a = accepted m s e in
-      let b = windowed m s e on in
+      let b = window-limits m s e on in
       record {
         main = main-fits;
         window =

@@ -12,7 +12,7 @@ use Rattle.screen.specs.Screen.{quarter, viewWidth, viewHeight, fieldRow
 use Rattle.screen.specs.Values.{edges, windowX, windowY, valuesOf}
 use Rattle.screen.specs.declared.Window.{Window}
 use Rattle.screen.specs.declared.Screen.{Screen}
-use Rattle.screen.proofs.Accepted.{accepted, Windowed, windowed}
+use Rattle.screen.proofs.Accepted.{accepted, WindowLimits, window-limits}
 use Rattle.screen.proofs.Values.{x-value, y-value, main-width, main-height}
 
 -- a position register that holds the pixels or lines from near on, count of them, in whole units: dwords of pixels, or lines
@@ -141,8 +141,8 @@ abbrev pub countY : ℕ → Window → ℕ
 countY r a = cond (quarter r) (a .width) (a .height)
 
 module _ (m : ℕ) (s : Screen) (e : firstOf (fieldRows m s) ≡ 0) (on : s .flag ≡ 1) where
-  b : Windowed m s
-  b = windowed m s e on
+  b : WindowLimits m s
+  b = window-limits m s e on
 
   kpos : 0 < perDword (s .depth)
   kpos = pos-left (perDword (s .depth)) (s .depth) (accepted m s e .whole)

@@ -39,8 +39,8 @@ plain depth rotation width height base =
     depth ∷ rotation ∷ 0 ∷ 0 ∷ twoBytes width ++ twoBytes height ++ fourBytes base ++ fourBytes 0 ++ fourBytes 0 ++ fourBytes 0 ++ fourBytes 0 ++ fourBytes 0
 
 -- a screen record of S1's panel, 320 by 240 at depth 4, bases 0, with a window of width by height at (x, y)
-abbrev pub windowed : ℕ → ℕ → ℕ → ℕ → ℕ → List ℕ
-windowed rotation x y width height =
+abbrev pub withWindow : ℕ → ℕ → ℕ → ℕ → ℕ → List ℕ
+withWindow rotation x y width height =
     4 ∷ rotation ∷ 1 ∷ 0 ∷ twoBytes 320 ++ twoBytes 240 ++ fourBytes 0 ++ fourBytes 0 ++ twoBytes x ++ twoBytes y ++ twoBytes width ++ twoBytes height ++ fourBytes 0 ++ fourBytes 0
 
 -- what a screen record gives: the refusal number, then the six values
@@ -74,10 +74,10 @@ screenCases =
     ∷ screen (plain 4 1 320 240 0) (number 0 ∷ start 0x1D ∷ offset 0x1E ∷ [])
     ∷ screen (plain 4 2 320 240 0) (number 0 ∷ start 0x257F ∷ offset 0x28 ∷ [])
     ∷ screen (plain 4 3 320 240 0) (number 0 ∷ start 0x2562 ∷ offset 0x1E ∷ [])
-    ∷ screen (windowed 1 64 80 120 160) (number 0 ∷ across (edges 0x50 0xEF) ∷ down (edges 0x07 0x15) ∷ [])
-    ∷ screen (windowed 3 64 80 120 160) (number 0 ∷ across (edges 0x50 0xEF) ∷ down (edges 0x08 0x16) ∷ [])
-    ∷ screen (windowed 2 80 60 160 120) (number 0 ∷ across (edges 0x0A 0x1D) ∷ down (edges 0x3C 0xB3) ∷ [])
-    ∷ screen (windowed 0 4 0 8 1) (number 8 ∷ [])
+    ∷ screen (withWindow 1 64 80 120 160) (number 0 ∷ across (edges 0x50 0xEF) ∷ down (edges 0x07 0x15) ∷ [])
+    ∷ screen (withWindow 3 64 80 120 160) (number 0 ∷ across (edges 0x50 0xEF) ∷ down (edges 0x08 0x16) ∷ [])
+    ∷ screen (withWindow 2 80 60 160 120) (number 0 ∷ across (edges 0x0A 0x1D) ∷ down (edges 0x3C 0xB3) ∷ [])
+    ∷ screen (withWindow 0 4 0 8 1) (number 8 ∷ [])
     ∷ screen (plain 2 0 1024 1024 0) (number 0 ∷ [])
     ∷ screen (plain 2 0 1024 1024 4) (number 6 ∷ [])
     ∷ []

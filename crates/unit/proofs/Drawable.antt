@@ -14,7 +14,7 @@ use Rattle.screen.specs.Image.{lineBytes, imageEnd}
 use Rattle.screen.specs.Screen.{mainImage, windowImage, fieldRows}
 use Rattle.screen.specs.declared.Image.{Image}
 use Rattle.screen.specs.declared.Screen.{Screen}
-use Rattle.screen.proofs.Accepted.{Aligned, accepted, windowed, main-aligned, main-sides, window-sides, main-line, window-line}
+use Rattle.screen.proofs.Accepted.{Aligned, accepted, window-limits, main-aligned, main-sides, window-sides, main-line, window-line}
 use Rattle.command.specs.Command.{commandOf, surfaceOf}
 use Rattle.command.specs.declared.Command.{Command}
 use Rattle.command.proofs.Fine.{Fine}
@@ -66,7 +66,7 @@ module _ (m : ℕ) (s : Screen) (e : firstOf (fieldRows m s) ≡ 0) (flag : s .f
 
   window-surface : s .flag ≡ 1 → Surface m (s .depth / 8) (windowImage s)
   window-surface on =
-      let w = windowed m s e on in
+      let w = window-limits m s e on in
       let g = window-sides m s e on in
       surface m (s .depth) _ (windowImage s) bytes (w .image) (g .2) (g .3) (window-line s) (w .ends)
 

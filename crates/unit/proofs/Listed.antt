@@ -15,7 +15,7 @@ use Rattle.record.specs.declared.Record.{Record}
 use Rattle.record.proofs.Choice.{below-or-not, yes, no}
 use Rattle.screen.specs.Screen.{fieldRows}
 use Rattle.screen.specs.declared.Screen.{Screen}
-use Rattle.blit.specs.Words.{lineWords as blit·lineWords}
+use Rattle.blit.specs.Words.{wordsAcross}
 use Rattle.blit.proofs.Painted.{length-tabulate}
 use Rattle.chip.specs.Start.{operation, bytesOf, widthOf, heightOf, startable, within, started}
 use Rattle.chip.specs.declared.Chip.{Chip}
@@ -69,7 +69,7 @@ unfolding wordWrites
 no-writes = refl
 
 -- the words of a line, by depth and by bytes
-line-words : (d B width : ℕ) → d ≡ 8 * B → OneOrTwo B → blit·lineWords B width ≡ lineWords d width
+line-words : (d B width : ℕ) → d ≡ 8 * B → OneOrTwo B → wordsAcross B width ≡ lineWords d width
 unfolding lineWords
 line-words d B width h t =
     ⊎-elim
@@ -128,10 +128,10 @@ module _ (m B : ℕ) (s : Screen) (c : Command) (d : Drawable m B s c) (chip : C
       not-yet : old ≡ started regs old
       not-yet = sym (waiting-write regs old (write-op m B s c d e))
 
-      enough : length words ≡ heightOf regs * blit·lineWords (bytesOf regs) (widthOf regs)
+      enough : length words ≡ heightOf regs * wordsAcross (bytesOf regs) (widthOf regs)
       enough =
           count ∙ write-words s c e ∙ mul-comm (lineWords (s .depth) (c .width)) (c .height)
-          ∙ sym ((λ t. height-is m B s c d t * blit·lineWords (bytes-is m B s c d t) (width-is m B s c d t)) ∙ ap (λ (n : ℕ). c .height * n) (line-words (s .depth) B (c .width) (d .deep) (d .size)))
+          ∙ sym ((λ t. height-is m B s c d t * wordsAcross (bytes-is m B s c d t) (width-is m B s c d t)) ∙ ap (λ (n : ℕ). c .height * n) (line-words (s .depth) B (c .width) (d .deep) (d .size)))
 
   no-words : (words : List ℕ) → length words ≡ wordsTaken s c → (c .operation ≡ 2 → ⊥) → length words ≡ 0
   unfolding wordsTaken

@@ -19,9 +19,9 @@ use Rattle.view.specs.View.{pixelAt}
 use Rattle.blit.specs.Blit.{Blit, Source, given, memory}
 use Rattle.blit.specs.Rectangle.{tabulate, row, column, lane, inside, paintedPixel, paintedByte, painted}
 use Rattle.blit.specs.Words.{wordPixel, hostPixel}
-use Rattle.command.specs.Command.{surfaceOf, lineWords as command·lineWords}
+use Rattle.command.specs.Command.{surfaceOf, lineWords}
 use Rattle.command.specs.declared.Command.{Command}
-use Rattle.unit.specs.Sheet.{sheetPixel, newPixel, drawn, sheetByte, sheetCommand, hostPixel as sheet·hostPixel}
+use Rattle.unit.specs.Sheet.{sheetPixel, newPixel, changes, sheetByte, sheetCommand, hostPixel as sheet·hostPixel}
 use Rattle.unit.proofs.Rectangles.{Frame, At, insideOwn, insideSurface, same-inside, from-own, own-line, own-column, own-lane, surface-line, surface-column, surface-lane}
 
 -- equal tests, and equal values where they hold
@@ -89,7 +89,7 @@ host-two width words few i j =
 
 host-is : (d B : ℕ) → d ≡ 8 * B → OneOrTwo B → (width : ℕ) (words : List ℕ) → ((k : ℕ) → getD words k 0 < 65536) → (i j : ℕ)
     → sheet·hostPixel d width words i j ≡ hostPixel B width words i j
-unfolding sheet·hostPixel command·lineWords
+unfolding sheet·hostPixel lineWords
 host-is d B h size width words few i j =
     ⊎-elim
     (λ e.
@@ -152,7 +152,7 @@ module _ (s : Screen) (c : Command) (words old : List ℕ) (B : ℕ) (deep : s .
           ∙ sym (λ t. byteOf (surface-lane frame a some-bytes room p t) (newPixel s c words old (i-is t) (j-is t)))
 
       same-byte : paintedByte (over s c B f source) old a ≡ sheetByte s c words old a
-      unfolding paintedByte inside sheetByte drawn
+      unfolding paintedByte inside sheetByte changes
       same-byte =
           rw bytes-is
           (same-choice (insideOwn frame a) (insideSurface frame a) own surface (getD old a 0) (same-inside frame a some-bytes room)

@@ -34,7 +34,7 @@ use Rattle.chip.proofs.Runs.{Admitted, all-admitted}
 use Rattle.chip.proofs.Plays.{Plays, plays-append, new-idle}
 use Rattle.chip.proofs.Commands.{screenWrites, quiet, screen-played}
 use Rattle.chip.proofs.Admits.{admits}
-use Rattle.unit.specs.Sheet.{drawn, sheetByte, sheetCommand, sheetCommands}
+use Rattle.unit.specs.Sheet.{changes, sheetByte, sheetCommand, sheetCommands}
 use Rattle.unit.specs.Demands.{AllBelow}
 use Rattle.unit.proofs.Listed.{Ends, AllBytes, below-take, below-drop, nothing-past, length-sheet, list-ends}
 
@@ -147,7 +147,7 @@ either-below false k v x h = h
 
 sheet-byte : (s : Screen) (c : Command) (words old : List ℕ) → AllBelow 256 old → (a : ℕ) → sheetByte s c words old a < 256
 unfolding sheetByte
-sheet-byte s c words old h a = either-below (drawn s c a) _ _ (getD old a 0) (h a)
+sheet-byte s c words old h a = either-below (changes s c a) _ _ (getD old a 0) (h a)
 
 below-tabulate : (limit : ℕ) → 0 < limit → (n : ℕ) (f : ℕ → ℕ) → ((a : ℕ) → f a < limit) → AllBelow limit (tabulate n f)
 below-tabulate limit pos n f h = λ k.

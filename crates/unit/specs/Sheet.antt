@@ -57,8 +57,8 @@ abbrev pub sheetLane : ℕ → Image → ℕ → ℕ
 sheetLane depth i a = (a - i .base) % i .line % (depth / 8)
 
 -- the command changes the byte at an address
-unfoldable pub drawn : Screen → Command → ℕ → Bool
-drawn s c a =
+unfoldable pub changes : Screen → Command → ℕ → Bool
+changes s c a =
     let surface = surfaceOf s c in
     leb (surface .base) a
     && (among (c .x) (c .width) (sheetColumn (s .depth) surface a) && among (c .y) (c .height) (sheetLine surface a))
@@ -67,7 +67,7 @@ drawn s c a =
 unfoldable pub sheetByte : Screen → Command → List ℕ → List ℕ → ℕ → ℕ
 sheetByte s c words old a =
     let surface = surfaceOf s c in
-    cond (drawn s c a)
+    cond (changes s c a)
     (byteOf (sheetLane (s .depth) surface a)
     (newPixel s c words old (sheetColumn (s .depth) surface a - c .x) (sheetLine surface a - c .y)))
     (byteAt old a)

@@ -13,7 +13,7 @@ use Rattle.pixel.proofs.Depth.{pos-left}
 use Rattle.screen.specs.Screen.{quarter, viewWidth, viewHeight, windowImage, fieldRows}
 use Rattle.screen.specs.Values.{originOf, valuesOf}
 use Rattle.screen.specs.declared.Screen.{Screen}
-use Rattle.screen.proofs.Accepted.{accepted, windowed, window-line}
+use Rattle.screen.proofs.Accepted.{accepted, window-limits, window-line}
 use Rattle.screen.proofs.Values.{main-width, main-height}
 use Rattle.screen.proofs.Spans.{Span, unitX, unitY, nearX, nearY, countX, countY, across, down, near-edge, inside, inside-back}
 use Rattle.view.specs.View.{Pixel, pixelAt, viewPixel, among, inWindow, windowPixel, bitAddress}
@@ -108,7 +108,7 @@ module _ (m : ℕ) (s : Screen) (f : firstOf (fieldRows m s) ≡ 0) (on : s .fla
 
   -- the window lies in the view
   pub within : (r : ℕ) → s .rotation ≡ r → (s .window .x + s .window .width ≤ viewWidth r (s .width) (s .height)) × (s .window .y + s .window .height ≤ viewHeight r (s .width) (s .height))
-  within r e = (omega (arith, windowed m s f on .fits, main-width s r e), omega (arith, windowed m s f on .bottom, main-height s r e))
+  within r e = (omega (arith, window-limits m s f on .fits, main-width s r e), omega (arith, window-limits m s f on .bottom, main-height s r e))
 
   -- the points of the window, from the panel's corner
   abbrev InSpans : ℕ → ℕ → ℕ → Bool
@@ -207,7 +207,7 @@ module _ (m : ℕ) (s : Screen) (f : firstOf (fieldRows m s) ≡ 0) (on : s .fla
       (bitAddress (s .depth) (windowImage s) (windowPixel s (viewPixel (s .rotation) (s .width) (s .height) p q)))
   window-shows p q pw qh t =
       let g = accepted m s f .rotation in
-      let b = windowed m s f on in
+      let b = window-limits m s f on in
       let l = local (s .rotation) refl g p q pw qh t in
       rw (l .2) at
       (image-shows m (perDword (s .depth)) (s .depth) (windowImage s) (b .image) (window-line s) (b .ends) (s .rotation) _ _ g (l .0) (l .1))

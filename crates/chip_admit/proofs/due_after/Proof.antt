@@ -1,7 +1,7 @@
 use Prim.Native.Nat.{_+_, _<_, _≤_}
 use native.Mathlib.Omega.{arith}
 use borrow.Author.Tests.{lt-ltb, le-ltb}
-use Rattle.blit.specs.Words.{lineWords}
+use Rattle.blit.specs.Words.{wordsAcross}
 use Rattle.chip.specs.Start.{bytesOf, widthOf, heightOf}
 use Rattle.chip.specs.Admit.{dueAfter}
 use borrow.Author.Needs.{needs}
@@ -27,8 +27,8 @@ returns : tie.Need-returns
 unfolding dueAfter
 returns c =
     let a = c .before .before .before .before .before .args in
-    let h : a .d .word + 1 < lineWords (bytesOf (a .b)) (widthOf (a .b)) = omega (arith, c .before .before .before .before .words-of .ensures .0) in
-    simp (lt-ltb (a .d .word + 1) (lineWords (bytesOf (a .b)) (widthOf (a .b))) h)
+    let h : a .d .word + 1 < wordsAcross (bytesOf (a .b)) (widthOf (a .b)) = omega (arith, c .before .before .before .before .words-of .ensures .0) in
+    simp (lt-ltb (a .d .word + 1) (wordsAcross (bytesOf (a .b)) (widthOf (a .b))) h)
 
 cast-if2 : tie.Need-cast-if2
 cast-if2 c = search needs
@@ -43,17 +43,17 @@ returns-2 : tie.Need-returns-2
 unfolding dueAfter
 returns-2 c =
     let a = c .before .before .before .before .before .before .before .args in
-    let h : lineWords (bytesOf (a .b)) (widthOf (a .b)) ≤ a .d .word + 1 = omega (arith, c .before .before .before .before .before .before .words-of .ensures .0) in
+    let h : wordsAcross (bytesOf (a .b)) (widthOf (a .b)) ≤ a .d .word + 1 = omega (arith, c .before .before .before .before .before .before .words-of .ensures .0) in
     let l : a .d .line + 1 < heightOf (a .b) = omega (arith, c .before .before .before .before .before .height-of .ensures) in
-    simp (le-ltb (a .d .word + 1) (lineWords (bytesOf (a .b)) (widthOf (a .b))) h, lt-ltb (a .d .line + 1) (heightOf (a .b)) l)
+    simp (le-ltb (a .d .word + 1) (wordsAcross (bytesOf (a .b)) (widthOf (a .b))) h, lt-ltb (a .d .line + 1) (heightOf (a .b)) l)
 
 returns-3 : tie.Need-returns-3
 unfolding dueAfter
 returns-3 c =
     let a = c .before .before .before .before .before .before .args in
-    let h : lineWords (bytesOf (a .b)) (widthOf (a .b)) ≤ a .d .word + 1 = omega (arith, c .before .before .before .before .before .words-of .ensures .0) in
+    let h : wordsAcross (bytesOf (a .b)) (widthOf (a .b)) ≤ a .d .word + 1 = omega (arith, c .before .before .before .before .before .words-of .ensures .0) in
     let l : heightOf (a .b) ≤ a .d .line + 1 = omega (arith, c .before .before .before .before .height-of .ensures) in
-    simp (le-ltb (a .d .word + 1) (lineWords (bytesOf (a .b)) (widthOf (a .b))) h, le-ltb (a .d .line + 1) (heightOf (a .b)) l)
+    simp (le-ltb (a .d .word + 1) (wordsAcross (bytesOf (a .b)) (widthOf (a .b))) h, le-ltb (a .d .line + 1) (heightOf (a .b)) l)
 
 pub due-after-spec : {M : Type 1} → statement M
 due-after-spec =
