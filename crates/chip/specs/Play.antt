@@ -36,7 +36,7 @@ unfoldable pub applied : Chip → List Record → List ℕ → List ℕ
 applied c [] old = old
 applied c (r ∷ rs) old = applied (chipAfter c r) rs (effect c r old)
 
--- what playing gives back: number, place and the six screen values; of a refusal all other numbers are 0
+-- what playing gives back: number, place and the six screen values
 pub record Playing : Type 0 where
   pub number : ℕ
   pub place : ℕ
@@ -62,10 +62,15 @@ playing m stream memory =
 unfoldable pub played : ℕ → List ℕ → List ℕ → List ℕ
 played m stream memory = cond (eqb (playing m stream memory .number) 0) (applied newChip (recordsOf stream) memory) memory
 
--- 01's numbers of an answer
+-- 01's numbers of an answer: of a refusal all but number and place are 0
 unfoldable pub playingOf : Played → Playing
 playingOf (Accepted v) = record { number = 0; place = 0; values = v }
-playingOf (Refused n i) = refusedBy n i
+playingOf (Refused n i) =
+    record {
+      number = n;
+      place = i;
+      values = record { main = record { start = 0; offset = 0 }; window = record { start = 0; offset = 0 }; x = 0; y = 0 };
+    }
 
 -- the answer with these numbers
 unfoldable pub answerOf : Playing → Played

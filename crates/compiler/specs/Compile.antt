@@ -98,10 +98,10 @@ unfoldable pub bufferAfter : ℕ → List ℕ → List ℕ → List ℕ → List
 bufferAfter m bytes list words old =
     cond (eqb (compiling m bytes list words (length old) .number) 0) (over (streamOf bytes list words) old) old
 
--- 01's numbers of an answer
+-- 01's numbers of an answer: of a refusal all but number and place are 0
 unfoldable pub compilingOf : Compiled → Compiling
 compilingOf (Accepted n d r f) = record { number = 0; place = 0; length = n; depth = d; rotation = r; flag = f }
-compilingOf (Refused n i) = refusedBy n i
+compilingOf (Refused n i) = record { number = n; place = i; length = 0; depth = 0; rotation = 0; flag = 0 }
 
 -- the answer with these numbers
 unfoldable pub answerOf : Compiling → Compiled

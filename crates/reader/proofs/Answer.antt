@@ -9,7 +9,7 @@ use borrow.Author.Tests.{ne-eqb, eqb-true, le-leb, lt-leb, lt-ltb, le-ltb}
 use Rattle.record.specs.Checks.{firstOf, Numbered}
 use Rattle.screen.specs.declared.ScreenValues.{ScreenValues}
 use Rattle.view.specs.declared.Place.{Place}
-use Rattle.reader.specs.Read.{lookedAt, dwordInside, readRows, colourAt, reading, readingOf, answerOf}
+use Rattle.reader.specs.Read.{Reading, lookedAt, dwordInside, readRows, colourAt, reading, readingOf, answerOf}
 use Rattle.reader.specs.declared.Display.{Display}
 use Rattle.reader.specs.declared.PointAnswer.{PointAnswer}
 use Rattle.reader.specs.declared.PointAnswer.the-variants.{Colour, Refused}
@@ -19,6 +19,11 @@ back : (n c : ℕ) (t : Bool) → eqb n 0 ≡ t → readingOf (cond t (Colour (c
 unfolding readingOf
 back n c true e = λ i. record { number = sym (eqb-true n 0 e) i; place = 0; colour = c }
 back n c false e = refl
+
+-- a refusal whose numbers are a reading's is the reading's answer
+pub refused-answer : (n : ℕ) (x : Reading) → 0 < n → record { number = n; place = 0; colour = 0 } ≡ x → (readingOf (Refused n) ≡ x) × (Refused n ≡ answerOf x)
+unfolding readingOf answerOf
+refused-answer n x h e = (e, rw (← e) (rw (ne-eqb n 0 (λ z. omega arith)) refl))
 
 module _ (m : ℕ) (d : Display) (v : ScreenValues) (p q : ℕ) (memory : List ℕ) where
   -- 0 is the number of no row

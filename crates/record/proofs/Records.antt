@@ -96,3 +96,8 @@ unfolding recordsOf
 records-back rs p =
     let e : length (streamBytes rs) / 8 ≡ length rs = omega (arith, length-stream rs) in
     ap (λ (n : ℕ). recordsFrom (streamBytes rs) 0 n) e ∙ back rs p
+
+-- a stream's bytes have a record for each eight of them
+pub records-count : (s : List ℕ) → length (recordsOf s) ≡ length s / 8
+unfolding recordsOf
+records-count s = length-from s 0 (length s / 8)

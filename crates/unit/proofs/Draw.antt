@@ -23,7 +23,7 @@ use Rattle.chip.specs.declared.Played.{Played}
 use Rattle.chip.specs.declared.Played.the-variants as played
 use Rattle.unit.specs.Sheet.{sheetAfter}
 use Rattle.unit.specs.Demands.{AllBelow, DrawnTruly, streamGiven}
-use Rattle.unit.specs.Draw.{Drawing, refusedBy, drawing, memoryDrawn, streamDrawn, drawingOf}
+use Rattle.unit.specs.Draw.{Drawing, refusedBy, drawing, memoryDrawn, streamDrawn, drawingOf, answerOf as unit·answerOf}
 use Rattle.unit.specs.declared.Drawn.{Drawn}
 use Rattle.unit.specs.declared.Drawn.the-variants.{Accepted, Refused}
 use Rattle.unit.proofs.Demands.{demand-3, values-given}
@@ -50,13 +50,23 @@ played-values : (v : ScreenValues) (p : Playing) → played.Accepted v ≡ chip�
 unfolding playingOf
 played-values v p e f = ap (λ (x : Playing). x .values) f
 
+-- an answer whose numbers are a drawing's is the drawing's answer
+refused-answer : (n i : ℕ) (d : Drawing) → (n ≡ 0 → ⊥) → drawingOf (Refused n i) ≡ d → (drawingOf (Refused n i) ≡ d) × (Refused n i ≡ unit·answerOf d)
+unfolding drawingOf unit·answerOf
+refused-answer n i d h e = (e, rw (← e) (rw (ne-eqb n 0 h) refl))
+
+accepted-answer : (n : ℕ) (v : ScreenValues) (d : Drawing) → drawingOf (Accepted n v) ≡ d → (drawingOf (Accepted n v) ≡ d) × (Accepted n v ≡ unit·answerOf d)
+unfolding drawingOf unit·answerOf
+accepted-answer n v d e = (e, rw (← e) refl)
+
 module _ (bytes list words old memory : List ℕ) where
   -- an answer, a stream buffer and a memory that are what drawing promises
   abbrev pub Drew : Drawn → List ℕ → List ℕ → Type 0
   Drew r stream new =
       (drawingOf r ≡ drawing memorySize bytes list words (length old) memory)
+      × ((r ≡ unit·answerOf (drawing memorySize bytes list words (length old) memory))
       × ((stream ≡ streamDrawn memorySize bytes list words old memory)
-      × (new ≡ memoryDrawn memorySize bytes list words (length old) memory))
+      × (new ≡ memoryDrawn memorySize bytes list words (length old) memory)))
 
   abbrev c : Compiling
   c = compiling memorySize bytes list words (length old)
@@ -64,7 +74,9 @@ module _ (bytes list words old memory : List ℕ) where
   -- a memory of another size
   pub other-size : (length memory ≡ memorySize → ⊥) → Drew (Refused 18 0) old memory
   unfolding drawing streamDrawn memoryDrawn drawingOf
-  other-size n = rw (ne-eqb (length memory) memorySize n) (refl, (refl, refl))
+  other-size n =
+      rw (ne-eqb (length memory) memorySize n)
+      (let a = refused-answer 18 0 (refusedBy 18 0) (λ z. omega arith) refl in (a .0, (a .1, (refl, refl))))
 
   module _ (len : length memory ≡ memorySize) (stream : List ℕ) (buffer : stream ≡ bufferAfter memorySize bytes list words old) where
     -- compiling refuses
@@ -72,8 +84,9 @@ module _ (bytes list words old memory : List ℕ) where
     unfolding drawing streamDrawn memoryDrawn drawingOf sheetAfter compilingOf
     compile-refused n i e f =
         let some = ne-eqb (c .number) 0 (refused-number n i c f) in
-        rw (eq-eqb (length memory) memorySize len, some)
-        ((λ t. refusedBy (e t .number) (e t .place)), (buffer, refl))
+        let a = refused-answer n i (refusedBy (c .number) (c .place)) (λ z. refused-number n i c f (sym (ap (λ (x : Compiling). x .number) e) ∙ z))
+        (λ t. refusedBy (e t .number) (e t .place)) in
+        rw (eq-eqb (length memory) memorySize len, some) (a .0, (a .1, (buffer, refl)))
 
     module _ (n d r f : ℕ) (e : compilingOf (compiled.Accepted n d r f) ≡ c) where
       none : c .number ≡ 0
@@ -117,5 +130,7 @@ module _ (bytes list words old memory : List ℕ) where
             let values : v ≡ valuesOf (fieldsOf bytes) =
             ap (λ (x : Playing). x .values) p ∙ ap (λ (x : List ℕ). playing memorySize x memory .values) given
             ∙ values-given bytes list words old memory byte-list word-list byte-memory len none in
+            let a = accepted-answer n v (record { number = 0; place = 0; length = c .length; values = valuesOf (fieldsOf bytes) })
+            (λ t. record { number = 0; place = 0; length = size t; values = values t }) in
             rw (eq-eqb (length memory) memorySize len, eq-eqb (c .number) 0 none)
-            ((λ t. record { number = 0; place = 0; length = size t; values = values t }), (buffer, m ∙ ap (λ (x : List ℕ). played memorySize x memory) given ∙ truly .same-bytes))
+            (a .0, (a .1, (buffer, m ∙ ap (λ (x : List ℕ). played memorySize x memory) given ∙ truly .same-bytes)))

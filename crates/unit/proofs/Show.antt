@@ -18,7 +18,10 @@ use Rattle.screen.proofs.Fits.{values-pass}
 use Rattle.screen.specs.declared.ScreenValues.{ScreenValues}
 use Rattle.screen.specs.declared.ScreenAnswer.{ScreenAnswer}
 use Rattle.screen.specs.declared.ScreenAnswer.the-variants as screen
-use Rattle.reader.specs.Read.{Reading, readRows, reading, displayOf}
+use Rattle.reader.specs.Read.{readRows, reading, readingOf, answerOf, displayOf}
+use Rattle.reader.specs.declared.PointAnswer.{PointAnswer}
+use Rattle.reader.specs.declared.PointAnswer.the-variants.{Refused}
+use Rattle.reader.proofs.Answer.{refused-answer}
 use Rattle.reader.specs.declared.Display.{Display}
 use Rattle.unit.specs.Sheet.{sheetShows}
 use Rattle.unit.specs.Demands.{AllBelow}
@@ -34,9 +37,13 @@ module _ (bytes : List ℕ) (p q : ℕ) (memory : List ℕ) where
   unfolding showing
   by-number n h e = rw (← e) (rw (ne-eqb n 0 (λ z. omega arith)) refl)
 
-  pub show-size : (length memory ≡ memorySize → ⊥) → record { number = 18; place = 0; colour = 0 } ≡ showing memorySize bytes p q memory
+  -- the answer that a point shows, and its numbers
+  abbrev pub Shown : PointAnswer → Type 0
+  Shown a = (readingOf a ≡ showing memorySize bytes p q memory) × (a ≡ answerOf (showing memorySize bytes p q memory))
+
+  pub show-size : (length memory ≡ memorySize → ⊥) → Shown (Refused 18)
   unfolding showRows
-  show-size n = by-number 18 (lit< tt) (row-fails _ (ap not (ne-eqb (length memory) memorySize n)))
+  show-size n = refused-answer 18 _ (lit< tt) (by-number 18 (lit< tt) (row-fails _ (ap not (ne-eqb (length memory) memorySize n))))
 
   module _ (len : length memory ≡ memorySize) where
     sized : (x : ℕ) → x ≡ firstOf (screenRows memorySize bytes ++ (row 24 (not (ltb p (s .width) && ltb q (s .height))) ∷ [])) → x ≡ firstOf (showRows memorySize bytes p q memory)
@@ -96,15 +103,20 @@ module _ (bytes : List ℕ) (p q : ℕ) (memory : List ℕ) (len : length memory
   unfolding screenOf
   above n e z = true≢false (ap isScreen (rw (eq-eqb (firstOf (screenRows memorySize bytes)) 0 z) at e))
 
-  pub screen-refused : (n : ℕ) → screenOf memorySize bytes ≡ screen.Refused n → record { number = n; place = 0; colour = 0 } ≡ showing memorySize bytes p q memory
+  pub screen-refused : (n : ℕ) → screenOf memorySize bytes ≡ screen.Refused n → Shown bytes p q memory (Refused n)
   unfolding numberOf
   screen-refused n e =
       let f : n ≡ firstOf (screenRows memorySize bytes) = ap numberOf (sym e) ∙ number-is memorySize bytes in
-      show-refused bytes p q memory len n (omega (arith, f, above n e)) f
+      let some : 0 < n = omega (arith, f, above n e) in
+      refused-answer n _ some (show-refused bytes p q memory len n some f)
+
+  same-reading : (s : Screen) → screenOf memorySize bytes ≡ screen.Accepted s → AllBelow 256 memory → (d : Display) → d ≡ displayOf s → (v : ScreenValues) → v ≡ valuesOf s
+      → reading memorySize d v p q memory ≡ showing memorySize bytes p q memory
+  same-reading s e below d ed v ev =
+      let a = read-accepted memorySize bytes s e in
+      (λ t. reading memorySize ((ed ∙ ap displayOf (a .0)) t) ((ev ∙ ap valuesOf (a .0)) t) p q memory)
+      ∙ show-reads bytes p q memory len (a .1) (subst (λ (x : Screen). firstOf (fieldRows memorySize x) ≡ 0) (a .0) (a .2)) (subst (λ (x : Screen). x .flag ≤ 1) (a .0) (a .3)) below
 
   pub screen-accepted : (s : Screen) → screenOf memorySize bytes ≡ screen.Accepted s → AllBelow 256 memory → (d : Display) → d ≡ displayOf s → (v : ScreenValues) → v ≡ valuesOf s
-      → (r : Reading) → r ≡ reading memorySize d v p q memory → r ≡ showing memorySize bytes p q memory
-  screen-accepted s e below d ed v ev r er =
-      let a = read-accepted memorySize bytes s e in
-      er ∙ (λ t. reading memorySize ((ed ∙ ap displayOf (a .0)) t) ((ev ∙ ap valuesOf (a .0)) t) p q memory)
-      ∙ show-reads bytes p q memory len (a .1) (subst (λ (x : Screen). firstOf (fieldRows memorySize x) ≡ 0) (a .0) (a .2)) (subst (λ (x : Screen). x .flag ≤ 1) (a .0) (a .3)) below
+      → (a : PointAnswer) → readingOf a ≡ reading memorySize d v p q memory → a ≡ answerOf (reading memorySize d v p q memory) → Shown bytes p q memory a
+  screen-accepted s e below d ed v ev a f g = let h = same-reading s e below d ed v ev in (f ∙ h, g ∙ ap answerOf h)

@@ -21,20 +21,24 @@ use Rattle.unit.specs.Tables.{compileRows, playRows}
 abbrev pub AllBelow : ℕ → List ℕ → Type 0
 AllBelow limit xs = (k : ℕ) → getD xs k 0 < limit
 
--- Demand 1 of an answer's number and a table: "accepted exactly when document 01's limits hold, else refused with the first
--- number in 01's order"
-pub record Decided (number : ℕ) (rows : List Row) : Type 0 where
+-- Demand 1 of an answer's number and place, and a table: "accepted exactly when document 01's limits hold, else refused with the
+-- first number in 01's order"; the place is that of the row, and 0 on acceptance
+pub record Decided (number place : ℕ) (rows : List Row) : Type 0 where
   pub accepted : (number ≡ 0) ↔ AllPass rows
-  pub refused : (n : ℕ) → 0 < n → (number ≡ n) ↔ FirstFails rows n
+  pub nowhere : number ≡ 0 → place ≡ 0
+  pub refused : (n i : ℕ) → 0 < n → ((number ≡ n) × (place ≡ i)) ↔ FirstFails rows n i
 
 -- Demand 1: each of compiling, playing and the point reader is decided by its table, and a refusal leaves every lent buffer
 -- as it was
 pub record Demand1 : Type 0 where
-  pub compiled : (bytes list words : List ℕ) (room : ℕ) → Decided (compiling memorySize bytes list words room .number) (compileRows memorySize bytes list words room)
+  pub compiled : (bytes list words : List ℕ) (room : ℕ)
+      → let r = compiling memorySize bytes list words room in Decided (r .number) (r .place) (compileRows memorySize bytes list words room)
   pub stream-kept : (bytes list words old : List ℕ) → 0 < compiling memorySize bytes list words (length old) .number → bufferAfter memorySize bytes list words old ≡ old
-  pub plays : (stream memory : List ℕ) → Decided (playing memorySize stream memory .number) (playRows memorySize stream memory)
+  pub plays : (stream memory : List ℕ)
+      → let r = playing memorySize stream memory in Decided (r .number) (r .place) (playRows memorySize stream memory)
   pub memory-kept : (stream memory : List ℕ) → 0 < playing memorySize stream memory .number → played memorySize stream memory ≡ memory
-  pub reads : (d : Display) (v : ScreenValues) (p q : ℕ) (memory : List ℕ) → Decided (reading memorySize d v p q memory .number) (readRows memorySize d v p q memory)
+  pub reads : (d : Display) (v : ScreenValues) (p q : ℕ) (memory : List ℕ)
+      → let r = reading memorySize d v p q memory in Decided (r .number) (r .place) (readRows memorySize d v p q memory)
 
 -- Demand 2: "Read back through the chip's walk, each panel point shows the one image pixel that the rotation names, inside
 -- memory, the small window over the main", from the register values of an accepted screen record

@@ -43,10 +43,20 @@ memoryDrawn m bytes list words room memory =
 unfoldable pub streamDrawn : ℕ → List ℕ → List ℕ → List ℕ → List ℕ → List ℕ → List ℕ
 streamDrawn m bytes list words old memory = cond (eqb (length memory) m) (bufferAfter m bytes list words old) old
 
--- 01's numbers of an answer
+-- 01's numbers of an answer: of a refusal all but number and place are 0
 unfoldable pub drawingOf : Drawn → Drawing
 drawingOf (Accepted n v) = record { number = 0; place = 0; length = n; values = v }
-drawingOf (Refused n i) = refusedBy n i
+drawingOf (Refused n i) =
+    record {
+      number = n;
+      place = i;
+      length = 0;
+      values = record { main = record { start = 0; offset = 0 }; window = record { start = 0; offset = 0 }; x = 0; y = 0 };
+    }
+
+-- the answer with these numbers
+unfoldable pub answerOf : Drawing → Drawn
+answerOf d = cond (eqb (d .number) 0) (Accepted (d .length) (d .values)) (Refused (d .number) (d .place))
 
 -- the checks of a point of a screen: 18, the screen's, then 24
 unfoldable pub showRows : ℕ → List ℕ → ℕ → ℕ → List ℕ → List Row

@@ -1,10 +1,10 @@
 -- The checks of compiling and of playing as one table each (01, "Refusal numbers, also the order of checking").
-use Prim.Native.Nat.{ℕ, _-_, _%_}
+use Prim.Native.Nat.{ℕ, suc, _-_, _%_}
 use mathlib.Core.List.{List, [], _∷_, _++_}
 use mathlib.Core.Bool.{not}
 use lib.ListN.{length}
 use lib.Dec.{eqb}
-use Rattle.record.specs.Checks.{Row, row}
+use Rattle.record.specs.Checks.{Row, row, rowsAt}
 use Rattle.record.specs.Record.{recordsOf}
 use Rattle.record.specs.declared.Record.{Record}
 use Rattle.screen.specs.Screen.{fieldsOf, screenRows}
@@ -16,26 +16,29 @@ use Rattle.chip.specs.Admit.{admitRows, chipAfter}
 use Rattle.chip.specs.Play.{newChip}
 use Rattle.chip.specs.declared.Chip.{Chip}
 
--- 12 to 15 command by command, with so many host words left before the first
-unfoldable pub listedRows : Screen → ℕ → List (List ℕ) → List Row
-listedRows s left [] = []
-listedRows s left (b ∷ bs) = commandRows s left b (commandOf b) ++ listedRows s (left - wordsTaken s (commandOf b)) bs
+-- 12 to 15 command by command, of which the first has index i, with so many host words left before it; a refusal's place is the
+-- index of the command
+unfoldable pub listedRows : Screen → ℕ → ℕ → List (List ℕ) → List Row
+listedRows s i left [] = []
+listedRows s i left (b ∷ bs) =
+    rowsAt i (commandRows s left b (commandOf b)) ++ listedRows s (suc i) (left - wordsTaken s (commandOf b)) bs
 
 -- "Compiling checks 1 to 11, then 12 to 15 command by command, then 16, 17"
 unfoldable pub compileRows : ℕ → List ℕ → List ℕ → List ℕ → ℕ → List Row
 compileRows m bytes list words room =
     let s = fieldsOf bytes in
     let commands = partsOf commandSize list in
-    screenRows m bytes ++ (listRows commandSize s list ++ (listedRows s (length words) commands ++ endRows s commands words room))
+    screenRows m bytes ++ (listRows commandSize s list ++ (listedRows s 0 (length words) commands ++ endRows s commands words room))
 
--- 20 to 23 record by record; the end last: 23 while data is due
-unfoldable pub recordRows : ℕ → Chip → List Record → List Row
-recordRows m c [] = row 23 (c .due .any) ∷ []
-recordRows m c (r ∷ rs) = admitRows m c r ++ recordRows m (chipAfter c r) rs
+-- 20 to 23 record by record, of which the first has index i; the end last: 23 while data is due. A refusal's place is the index of
+-- the record, and at the end the record count
+unfoldable pub recordRows : ℕ → Chip → ℕ → List Record → List Row
+recordRows m c i [] = rowsAt i (row 23 (c .due .any) ∷ [])
+recordRows m c i (r ∷ rs) = rowsAt i (admitRows m c r) ++ recordRows m (chipAfter c r) (suc i) rs
 
 -- "Playing checks 18, 19, then 20 to 23 record by record, lower number first in one record, the end last"
 unfoldable pub playRows : ℕ → List ℕ → List ℕ → List Row
 playRows m stream memory =
     row 18 (not (eqb (length memory) m))
     ∷ row 19 (not (eqb (length stream % 8) 0))
-    ∷ recordRows m newChip (recordsOf stream)
+    ∷ recordRows m newChip 0 (recordsOf stream)

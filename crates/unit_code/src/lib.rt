@@ -3,7 +3,8 @@ ghost use mathlib.Core.Path.{_≡_};
 ghost use lib.ListN.{length};
 ghost use Rattle.screen.specs.Screen.{memorySize};
 ghost use Rattle.reader.specs.Read.{readingOf};
-ghost use Rattle.unit.specs.Draw.{drawing, drawingOf, memoryDrawn, streamDrawn, showing};
+ghost use Rattle.reader.specs.Read.{answerOf as reader·answerOf};
+ghost use Rattle.unit.specs.Draw.{drawing, drawingOf, answerOf, memoryDrawn, streamDrawn, showing};
 use chip::Played;
 use compiler::Compiled;
 use reader::Display;
@@ -22,6 +23,7 @@ pub fn draw(
     memory: &mut [u8],
 ) -> Drawn
     ensures { λ r. ⌜ drawingOf r ≡ drawing memorySize (now (screen .entry)) (now (list .entry)) (now (words .entry)) (length (now (stream .entry))) (now (memory .entry)) ⌝ }
+    ensures { λ r. ⌜ r ≡ answerOf (drawing memorySize (now (screen .entry)) (now (list .entry)) (now (words .entry)) (length (now (stream .entry))) (now (memory .entry))) ⌝ }
     ensures { λ r. ⌜ now (stream .exit) ≡ streamDrawn memorySize (now (screen .entry)) (now (list .entry)) (now (words .entry)) (now (stream .entry)) (now (memory .entry)) ⌝ }
     ensures { λ r. ⌜ now (memory .exit) ≡ memoryDrawn memorySize (now (screen .entry)) (now (list .entry)) (now (words .entry)) (length (now (stream .entry))) (now (memory .entry)) ⌝ }
 {
@@ -45,6 +47,7 @@ pub fn draw(
 // The colour that panel point (p, q) of a screen shows over a memory.
 pub fn shown(screen: &[u8], p: u32, q: u32, memory: &[u8]) -> PointAnswer
     ensures { λ r. ⌜ readingOf r ≡ showing memorySize (now (screen .entry)) p q (now (memory .entry)) ⌝ }
+    ensures { λ r. ⌜ r ≡ reader·answerOf (showing memorySize (now (screen .entry)) p q (now (memory .entry))) ⌝ }
 {
     if memory.len() != 262144 {
         return PointAnswer::Refused(18);

@@ -26,7 +26,7 @@ same-length-2 : tie.Need-same-length-2
 same-length-2 c = search needs
 
 returns : tie.Need-returns
-returns c = (drawn-accepted _ _ (c .before .before .before .before .before .before .before .before .draw .ensures .0) _ _ _ (c .before .before .answer .given .1) (c .six-values .ensures), c .before .before .before .before .before .before .before .before .draw .ensures .1)
+returns c = (drawn-accepted _ _ (c .before .before .before .before .before .before .before .before .draw .ensures .0) _ _ _ (c .before .before .answer .given .1) (c .six-values .ensures), c .before .before .before .before .before .before .before .before .draw .ensures .1 .1)
 
 same-length-3 : tie.Need-same-length-3
 same-length-3 c = search needs
@@ -35,7 +35,7 @@ same-length-4 : tie.Need-same-length-4
 same-length-4 c = search needs
 
 returns-2 : tie.Need-returns-2
-returns-2 c = (drawn-refused _ _ (c .before .before .before .before .before .before .before .draw .ensures .0) _ _ (c .before .answer2 .given .1), c .before .before .before .before .before .before .before .draw .ensures .1)
+returns-2 c = (drawn-refused _ _ (c .before .before .before .before .before .before .before .draw .ensures .0) _ _ (c .before .answer2 .given .1), c .before .before .before .before .before .before .before .draw .ensures .1 .1)
 
 pub s1d-draw-spec : {M : Type 1} → statement M
 s1d-draw-spec =

@@ -9,7 +9,6 @@ use Rattle.unit_code.proofs.shown.Statement.{statement}
 use Rattle.unit_code.proofs.shown.Tie as tie
 
 returns : tie.Need-returns
-unfolding readingOf
 returns c =
     let a = c .before .before .before .args in
     show-size (a .screen .now) (a .p) (a .q) (a .memory .now) (c .if1 .taken)
@@ -45,7 +44,6 @@ read-point-requires : tie.Need-read-point-requires
 read-point-requires c κs = search needs
 
 returns-2 : tie.Need-returns-2
-unfolding readingOf
 returns-2 c =
     let a = c .before .before .before .before .before .before .before .args in
     let g = c .before .answer .given in
@@ -56,7 +54,7 @@ unfolding displayOf
 returns-3 c =
     let a = c .before .before .before .before .before .before .before .before .before .before .before .before .before .before .args in
     let g = c .before .before .before .before .before .before .before .before .answer2 .given in
-    screen-accepted (a .screen .now) (a .p) (a .q) (a .memory .now) (c .before .before .before .before .before .before .before .before .before .before .before .if1 .left) (g .0 .0) (sym (c .before .before .before .before .before .before .before .before .before .before .read-screen .ensures .0) ∙ g .1) (λ k. (c .before .before .before .before .before .before .before .before .before .before .before .before .shared-slice-known2 .given k) .fits) _ refl _ (c .before .screen-values .ensures) _ (c .read-point .ensures .0)
+    screen-accepted (a .screen .now) (a .p) (a .q) (a .memory .now) (c .before .before .before .before .before .before .before .before .before .before .before .if1 .left) (g .0 .0) (sym (c .before .before .before .before .before .before .before .before .before .before .read-screen .ensures .0) ∙ g .1) (λ k. (c .before .before .before .before .before .before .before .before .before .before .before .before .shared-slice-known2 .given k) .fits) _ refl _ (c .before .screen-values .ensures) _ (c .read-point .ensures .0) (c .read-point .ensures .1)
 
 pub shown-spec : {M : Type 1} → statement M
 shown-spec =
