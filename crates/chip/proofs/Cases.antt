@@ -2,7 +2,7 @@
 use Prim.Native.Nat.{ℕ}
 use mathlib.Core.Path.{_≡_, refl}
 use mathlib.Core.Bool.{true, false}
-use mathlib.Core.List.{List, [], _∷_, _++_}
+use mathlib.Core.List.{List, [], _∷_, _++_, map}
 use lib.ListN.{length}
 use Rattle.record.specs.Checks.{firstOf}
 use Rattle.record.specs.Record.{recordWith, recordBytes, streamBytes, recordAt, recordsFrom, recordsOf}
@@ -10,11 +10,13 @@ use Rattle.record.specs.declared.Record.{Record}
 use Rattle.pixel.specs.Pixel.{getPixel, putPixel}
 use Rattle.pixel.specs.Raster.{bitwise}
 use Rattle.blit.specs.Blit.{pixels, chipLine, chipLines, chipBlit}
+use Rattle.blit.specs.Words.{wordPixel, chipWord}
 use Rattle.chip.specs.Register.{listed, fits, screenAfter, blitAfter}
-use Rattle.chip.specs.Start.{startable, span, within, fillOf, moveOf, started}
+use Rattle.chip.specs.Start.{startable, span, within, fillOf, moveOf, writeOf, started}
 use Rattle.chip.specs.Admit.{admitRows, refusal, dueAfter, dueOf, chipAfter, effect}
-use Rattle.chip.specs.Play.{newChip, run, applied, ending, playing, played}
+use Rattle.chip.specs.Play.{newChip, run, applied, ending, playing, played, playingOf, answerOf}
 use Rattle.chip.specs.declared.Chip.{Chip}
+use Rattle.chip.specs.declared.Played.the-variants.{Refused}
 use Rattle.chip.proofs.Runs.{reached}
 use Rattle.chip.proofs.Answers.{acceptedBy}
 
@@ -59,12 +61,13 @@ b2 = screenRecords 0 2 0 0 0 0 ++ commandRecords 0xC0003 6 7 4 6 0 0 0 1
 abbrev pub b3 : List Record
 b3 = screenRecords 0 2 0 0 0 0 ++ commandRecords 0xC0002 1 0 4 6 0 0 0 1
 
-pub b2-played : (playing 8 (streamBytes b2) line8 .number ≡ 0) × (played 8 (streamBytes b2) line8 ≡ 1 ∷ 1 ∷ 2 ∷ 3 ∷ 4 ∷ 5 ∷ 6 ∷ 7 ∷ [])
-unfolding firstOf recordBytes streamBytes recordAt recordsFrom recordsOf getPixel putPixel bitwise pixels chipLine chipLines chipBlit listed fits screenAfter blitAfter startable span within fillOf moveOf started admitRows refusal dueAfter dueOf chipAfter effect newChip run applied ending playing played
+-- admitted in a memory of 262,144 bytes, and applied to the line
+pub b2-played : (run 262144 newChip 0 b2 .number ≡ 0) × (applied newChip b2 line8 ≡ 1 ∷ 1 ∷ 2 ∷ 3 ∷ 4 ∷ 5 ∷ 6 ∷ 7 ∷ [])
+unfolding firstOf getPixel putPixel bitwise pixels chipLine chipLines chipBlit listed fits screenAfter blitAfter startable span within fillOf moveOf started admitRows refusal dueAfter dueOf chipAfter effect newChip run applied
 b2-played = (refl, refl)
 
-pub b3-played : (playing 8 (streamBytes b3) line8 .number ≡ 0) × (played 8 (streamBytes b3) line8 ≡ 2 ∷ 3 ∷ 4 ∷ 5 ∷ 6 ∷ 7 ∷ 8 ∷ 8 ∷ [])
-unfolding firstOf recordBytes streamBytes recordAt recordsFrom recordsOf getPixel putPixel bitwise pixels chipLine chipLines chipBlit listed fits screenAfter blitAfter startable span within fillOf moveOf started admitRows refusal dueAfter dueOf chipAfter effect newChip run applied ending playing played
+pub b3-played : (run 262144 newChip 0 b3 .number ≡ 0) × (applied newChip b3 line8 ≡ 2 ∷ 3 ∷ 4 ∷ 5 ∷ 6 ∷ 7 ∷ 8 ∷ 8 ∷ [])
+unfolding firstOf getPixel putPixel bitwise pixels chipLine chipLines chipBlit listed fits screenAfter blitAfter startable span within fillOf moveOf started admitRows refusal dueAfter dueOf chipAfter effect newChip run applied
 b3-played = (refl, refl)
 
 -- ---- refusals of one record, the lowest number first
@@ -103,3 +106,155 @@ pub fills-hold : (fits 0x8000 0x40001 ≡ true)
     × (played 8 (streamBytes (three 6)) line8 ≡ line8)
 unfolding firstOf recordBytes streamBytes recordAt recordsFrom recordsOf getPixel putPixel bitwise pixels chipLine chipLines chipBlit listed fits screenAfter blitAfter startable span within fillOf moveOf started admitRows refusal dueAfter dueOf chipAfter effect newChip run applied ending playing played
 fills-hold = (refl, refl, refl, refl, refl)
+
+-- ---- registers
+
+-- the numbers that are taken, and some that are not
+pub numbers : map listed (0x40 ∷ 0x44 ∷ 0x50 ∷ 0x54 ∷ 0x58 ∷ 0x5C ∷ 0x8000 ∷ 0x8008 ∷ 0x800C ∷ 0x8010 ∷ 0x8014 ∷ 0x8018 ∷ 0x801C ∷ 0x8020 ∷ 0x8024 ∷ 0x10000 ∷ [])
+    ≡ true ∷ true ∷ true ∷ true ∷ true ∷ true ∷ true ∷ true ∷ true ∷ true ∷ true ∷ true ∷ true ∷ true ∷ true ∷ true ∷ []
+unfolding listed
+numbers = refl
+
+pub no-numbers : map listed (0 ∷ 0x48 ∷ 0x4C ∷ 0x60 ∷ 0x8004 ∷ 0x8001 ∷ 0x8028 ∷ 0xFFFF ∷ 0x10001 ∷ [])
+    ≡ false ∷ false ∷ false ∷ false ∷ false ∷ false ∷ false ∷ false ∷ false ∷ []
+unfolding listed
+no-numbers = refl
+
+-- the last value of each field; 8000h and 8008h have two fields each
+pub last-values : (fits 0x40 0xFFFF ∷ fits 0x44 0x3FF ∷ fits 0x50 0xFFFF ∷ fits 0x54 0x3FF ∷ fits 0x58 0x3FF03FF ∷ fits 0x5C 0x3FF03FF
+      ∷ fits 0x8000 0x40001 ∷ fits 0x8008 0xF000F ∷ fits 0x800C 0x3FFFF ∷ fits 0x8010 0x3FFFF ∷ fits 0x8014 0x7FF ∷ fits 0x8018 0x3FF
+      ∷ fits 0x801C 0x3FF ∷ fits 0x8020 0xFFFF ∷ fits 0x8024 0xFFFF ∷ fits 0x10000 0xFFFF ∷ [])
+    ≡ true ∷ true ∷ true ∷ true ∷ true ∷ true ∷ true ∷ true ∷ true ∷ true ∷ true ∷ true ∷ true ∷ true ∷ true ∷ true ∷ []
+unfolding fits
+last-values = refl
+
+pub next-values : (fits 0x40 0x10000 ∷ fits 0x44 0x400 ∷ fits 0x50 0x10000 ∷ fits 0x54 0x400 ∷ fits 0x58 0x400 ∷ fits 0x58 0x4000000 ∷ fits 0x5C 0x400 ∷ fits 0x5C 0x4000000
+      ∷ fits 0x8000 2 ∷ fits 0x8000 0x80000 ∷ fits 0x8008 0x10 ∷ fits 0x8008 0x100000 ∷ fits 0x800C 0x40000 ∷ fits 0x8010 0x40000 ∷ fits 0x8014 0x800 ∷ fits 0x8018 0x400
+      ∷ fits 0x801C 0x400 ∷ fits 0x8020 0x10000 ∷ fits 0x8024 0x10000 ∷ fits 0x10000 0x10000 ∷ [])
+    ≡ false ∷ false ∷ false ∷ false ∷ false ∷ false ∷ false ∷ false ∷ false ∷ false ∷ false ∷ false ∷ false ∷ false ∷ false ∷ false ∷ false ∷ false ∷ false ∷ false ∷ []
+unfolding fits
+next-values = refl
+
+-- all registers begin at 0, and each keeps the value that is written to it
+pub begins : newChip
+    ≡ record {
+      screen = record { main = record { start = 0; offset = 0 }; window = record { start = 0; offset = 0 }; x = 0; y = 0 };
+      blit = record { control = 0; command = 0; source = 0; destination = 0; offset = 0; width = 0; height = 0; background = 0; foreground = 0 };
+      due = record { any = false; line = 0; word = 0 };
+    }
+unfolding newChip
+begins = refl
+
+pub keeps : run 262144 newChip 0 (screenRecords 1 2 3 4 5 6 ++ commandRecords 0xC 8 9 10 11 12 13 14 0)
+    ≡ reached
+    (record {
+      screen = record { main = record { start = 1; offset = 2 }; window = record { start = 3; offset = 4 }; x = 5; y = 6 };
+      blit = record { control = 0; command = 0xC; source = 8; destination = 9; offset = 10; width = 11; height = 12; background = 13; foreground = 14 };
+      due = record { any = false; line = 0; word = 0 };
+    })
+unfolding firstOf listed fits screenAfter blitAfter startable span within admitRows refusal dueAfter dueOf chipAfter newChip run
+keeps = refl
+
+-- ---- starts, in a memory of eight bytes
+
+-- the refusal of a start with these registers: operation and raster code, source, destination, width and height less one; lines four bytes apart
+abbrev started-by : ℕ → ℕ → ℕ → ℕ → ℕ → ℕ → ℕ
+started-by command source destination width height control =
+    refusal 8
+    (record {
+      screen = newChip .screen;
+      blit = record { control = 0; command = command; source = source; destination = destination; offset = 2; width = width; height = height; background = 0; foreground = 0 };
+      due = newChip .due;
+    })
+    (recordWith 0x8000 control)
+
+-- 21: operations other than 0, 2, 3 and Ch; a write with a source start; odd addresses that are used at depth 16
+pub starts-known : started-by 0 0 0 0 0 1 ∷ started-by 2 0 0 0 0 1 ∷ started-by 3 0 0 0 0 1 ∷ started-by 0xC 0 0 0 0 1
+    ∷ started-by 1 0 0 0 0 1 ∷ started-by 4 0 0 0 0 1 ∷ started-by 0xD 0 0 0 0 1
+    ∷ started-by 0 1 0 0 0 1 ∷ started-by 0 2 0 0 0 1 ∷ started-by 0xC 1 0 0 0 1
+    ∷ started-by 0xC 0 1 0 0 0x40001 ∷ started-by 0xC 1 0 0 0 0x40001 ∷ started-by 2 1 0 0 0 0x40001 ∷ started-by 2 0 1 0 0 0x40001 ∷ started-by 0 0 1 0 0 0x40001
+    ∷ started-by 4 0 0 0 0 0
+    ∷ []
+    ≡ 0 ∷ 0 ∷ 0 ∷ 0
+    ∷ 21 ∷ 21 ∷ 21
+    ∷ 21 ∷ 21 ∷ 0
+    ∷ 21 ∷ 0 ∷ 21 ∷ 21 ∷ 21
+    ∷ 0
+    ∷ []
+unfolding firstOf listed fits screenAfter blitAfter startable span within admitRows refusal dueAfter dueOf chipAfter newChip
+starts-known = refl
+
+-- 22: a byte past the memory, or below it in negative direction: of the destination under each operation, and of a move's source alone. Two
+-- lines of three pixels reach six bytes on, of wide pixels eight.
+pub starts-inside : started-by 0xC 0 1 2 1 1 ∷ started-by 0xC 0 2 2 1 1
+    ∷ started-by 0 0 1 2 1 1 ∷ started-by 0 0 2 2 1 1
+    ∷ started-by 2 1 1 2 1 1 ∷ started-by 2 1 2 2 1 1 ∷ started-by 2 2 1 2 1 1
+    ∷ started-by 3 7 6 2 1 1 ∷ started-by 3 7 5 2 1 1 ∷ started-by 3 5 7 2 1 1 ∷ started-by 3 7 8 2 1 1 ∷ started-by 3 8 7 2 1 1
+    ∷ started-by 0xC 0 0 1 1 0x40001 ∷ started-by 0xC 0 2 1 1 0x40001 ∷ started-by 3 6 6 1 1 0x40001 ∷ started-by 3 6 8 1 1 0x40001
+    ∷ []
+    ≡ 0 ∷ 22
+    ∷ 0 ∷ 22
+    ∷ 0 ∷ 22 ∷ 22
+    ∷ 0 ∷ 22 ∷ 22 ∷ 22 ∷ 22
+    ∷ 0 ∷ 22 ∷ 0 ∷ 22
+    ∷ []
+unfolding firstOf listed fits screenAfter blitAfter startable span within admitRows refusal dueAfter dueOf chipAfter newChip
+starts-inside = refl
+
+-- ---- two rows that fail at once
+
+-- 20 and 21 and 23 in one record that comes while data is due; 21 and 22; 22 and 23
+pub first-of-two : refusal 8 waitingChip (recordWith 0x60 0xFFFFFFFF)
+    ∷ started-by 1 0 8 0 0 1
+    ∷ refusal 8 (record { screen = newChip .screen; blit = chipAfter (armed 0xC) (recordWith 0x8010 8) .blit; due = waitingChip .due }) (recordWith 0x8000 1)
+    ∷ []
+    ≡ 20 ∷ 21 ∷ 22 ∷ []
+unfolding firstOf listed fits screenAfter blitAfter startable span within admitRows refusal dueAfter dueOf chipAfter newChip
+first-of-two = refl
+
+-- playing's number and place over eight bytes
+abbrev told : List ℕ → List ℕ → List ℕ
+told stream memory = let p = playing 8 stream memory in p .number ∷ p .place ∷ []
+
+-- a write of one pixel at address 0, without its word
+abbrev waiting : List Record
+waiting = recordWith 0x40 7 ∷ recordWith 0x8000 1 ∷ []
+
+-- 18 and 19 at once; 19 and 20; an early 23 and a later 20; a later 20 before the end's 23; the end's 23, at the record count
+pub in-order : told (streamBytes waiting ++ (0 ∷ [])) (0 ∷ line8)
+    ∷ told (streamBytes (recordWith 0x60 0 ∷ []) ++ (0 ∷ [])) line8
+    ∷ told (streamBytes (recordWith 0x40 0 ∷ recordWith 0x10000 0 ∷ recordWith 0x60 0 ∷ [])) line8
+    ∷ told (streamBytes (waiting ++ (recordWith 0x60 0 ∷ []))) line8
+    ∷ told (streamBytes waiting) line8
+    ∷ told (streamBytes (waiting ++ (recordWith 0x10000 9 ∷ []))) line8
+    ∷ []
+    ≡ (18 ∷ 0 ∷ [])
+    ∷ (19 ∷ 0 ∷ [])
+    ∷ (23 ∷ 1 ∷ [])
+    ∷ (20 ∷ 2 ∷ [])
+    ∷ (23 ∷ 2 ∷ [])
+    ∷ (0 ∷ 0 ∷ [])
+    ∷ []
+unfolding firstOf recordBytes streamBytes recordAt recordsFrom recordsOf listed fits screenAfter blitAfter startable span within admitRows refusal dueAfter dueOf chipAfter newChip run ending playing
+in-order = refl
+
+-- all other numbers of a refusal are 0, also where screen registers were written before it; and the answers with such numbers
+pub refused-whole : (playing 8 (streamBytes waiting) line8
+      ≡ record { number = 23; place = 2; values = record { main = record { start = 0; offset = 0 }; window = record { start = 0; offset = 0 }; x = 0; y = 0 } })
+    × (answerOf (playing 8 (streamBytes waiting) line8) ≡ Refused 23 2)
+    × (playingOf (Refused 23 2) ≡ playing 8 (streamBytes waiting) line8)
+    × (played 8 (streamBytes waiting) line8 ≡ line8)
+unfolding firstOf recordBytes streamBytes recordAt recordsFrom recordsOf listed fits screenAfter blitAfter startable span within admitRows refusal dueAfter dueOf chipAfter newChip run ending playing played playingOf answerOf
+refused-whole = (refl, refl, refl, refl)
+
+-- ---- a write, played: two lines of three pixels from address 1, four bytes apart, under exclusive or. Each line takes two words, the low
+-- byte first, and the last byte is spare.
+abbrev write : List Record
+write =
+    recordWith 0x8008 0x60000 ∷ recordWith 0x8010 1 ∷ recordWith 0x8014 2 ∷ recordWith 0x8018 2 ∷ recordWith 0x801C 1 ∷ recordWith 0x8000 1
+    ∷ recordWith 0x10000 0x0201 ∷ recordWith 0x10000 0xFF03 ∷ recordWith 0x10000 0x0504 ∷ recordWith 0x10000 0xFF06 ∷ []
+
+pub write-played : (playing 8 (streamBytes write) line8 .number ≡ 0)
+    × (played 8 (streamBytes write) line8 ≡ 1 ∷ 3 ∷ 1 ∷ 7 ∷ 5 ∷ 2 ∷ 2 ∷ 14 ∷ [])
+unfolding firstOf recordBytes streamBytes recordAt recordsFrom recordsOf getPixel putPixel bitwise pixels chipLine chipLines chipBlit wordPixel chipWord listed fits screenAfter blitAfter startable span within fillOf moveOf writeOf started admitRows refusal dueAfter dueOf chipAfter effect newChip run applied ending playing played
+write-played = (refl, refl)

@@ -1,14 +1,16 @@
 -- Some commands, computed: their fields, nine values, host words and refusals. Among them 01's B1 and B2, and a move to a smaller x in a later line.
 use Prim.Native.Nat.{ℕ}
 use mathlib.Core.Path.{_≡_, refl}
-use mathlib.Core.List.{List, [], _∷_}
+use mathlib.Core.List.{List, [], _∷_, map}
+use lib.ListN.{set}
 use Rattle.record.specs.Bytes.{allZero}
 use Rattle.record.specs.Checks.{firstOf}
 use Rattle.screen.specs.Screen.{viewWidth, viewHeight, mainImage, windowImage}
 use Rattle.screen.specs.declared.Screen.{Screen}
-use Rattle.command.specs.Command.{commandOf, surfaceOf, unusedZero, formed, insideImage, placed, lineWords, wordsTaken, commandRows, refusal}
+use Rattle.command.specs.Command.{commandOf, surfaceOf, unusedZero, formed, insideImage, placed, lineWords, wordsTaken, commandRows, refusal, commandAnswer, numberOf}
 use Rattle.command.specs.Values.{addressOf, destinationOf, sourceOf, isNegative, lastColumn, lastLine, commandValue, sourceValue, destinationValue, controlValue, blitValues}
 use Rattle.command.specs.declared.Command.{Command}
+use Rattle.command.specs.declared.CommandAnswer.the-variants.{Accepted, Refused}
 
 -- an upright screen with a window of 8 by 4 at byte 1,024
 abbrev screen : ℕ → ℕ → ℕ → Screen
@@ -73,3 +75,68 @@ pub fields-hold : commandOf (0 ∷ 1 ∷ 2 ∷ 3 ∷ 4 ∷ 5 ∷ 6 ∷ 7 ∷ 8 �
     ≡ command 0 1 2 0x0504 0x0706 0x0908 0x0B0A 0x0D0C 0x0F0E 0x1110
 unfolding commandOf
 fields-hold = refl
+
+-- the number of a record on that screen, with 100 host words left
+abbrev number : List ℕ → ℕ
+number b = refusal (screen 8 8 4) 100 b
+
+-- a fill, a move from (1, 1) and a write, of 3 by 2 pixels at (2, 1)
+abbrev fill : List ℕ
+fill = bytes 0 2 1 3 2
+
+abbrev move : List ℕ
+move = set (set (bytes 1 2 1 3 2) 12 1) 14 1
+
+abbrev write : List ℕ
+write = bytes 2 2 1 3 2
+
+-- 12: operation 3, surface 2, raster code 16, colour 256 at depth 8, and each byte that must be zero: 3, 18 and 31, a fill's raster code and
+-- source, a move's colour, a write's source and colour. What an operation uses may be there.
+pub form : map number (
+      fill ∷ move ∷ write ∷ set fill 1 1 ∷ set fill 16 255 ∷ set move 2 15 ∷ set write 2 15
+      ∷ set fill 0 3 ∷ set fill 1 2 ∷ set move 2 16 ∷ set fill 17 1
+      ∷ set fill 3 1 ∷ set fill 18 1 ∷ set fill 31 1
+      ∷ set fill 2 1 ∷ set fill 12 1 ∷ set fill 14 1 ∷ set move 16 1 ∷ set write 12 1 ∷ set write 14 1 ∷ set write 16 1
+      ∷ [])
+    ≡ 0 ∷ 0 ∷ 0 ∷ 0 ∷ 0 ∷ 0 ∷ 0
+    ∷ 12 ∷ 12 ∷ 12 ∷ 12
+    ∷ 12 ∷ 12 ∷ 12
+    ∷ 12 ∷ 12 ∷ 12 ∷ 12 ∷ 12 ∷ 12 ∷ 12
+    ∷ []
+unfolding allZero firstOf viewWidth viewHeight mainImage windowImage surfaceOf commandOf unusedZero formed insideImage placed lineWords wordsTaken commandRows refusal
+form = refl
+
+-- at depth 16 a colour may have 16 bits; with flag 0 there is no window
+abbrev flagless : Screen
+flagless =
+    record { depth = 16; rotation = 0; flag = 0; width = 8; height = 4; base = 0; window = record { base = 0; x = 0; y = 0; width = 0; height = 0 } }
+
+pub screens : (refusal flagless 0 (set fill 17 255) ≡ 0) × (refusal flagless 0 (set fill 1 1) ≡ 12)
+unfolding allZero firstOf viewWidth viewHeight mainImage windowImage surfaceOf commandOf unusedZero formed insideImage placed lineWords wordsTaken commandRows refusal
+screens = (refl, refl)
+
+-- 13: no width, no height; 14: the destination or a move's source one past the surface, to the right and below
+pub rectangles : map number (
+      set fill 8 0 ∷ set fill 10 0
+      ∷ set fill 4 5 ∷ set fill 4 6 ∷ set fill 6 2 ∷ set fill 6 3
+      ∷ set move 12 5 ∷ set move 12 6 ∷ set move 14 2 ∷ set move 14 3
+      ∷ [])
+    ≡ 13 ∷ 13
+    ∷ 0 ∷ 14 ∷ 0 ∷ 14
+    ∷ 0 ∷ 14 ∷ 0 ∷ 14
+    ∷ []
+unfolding allZero firstOf viewWidth viewHeight mainImage windowImage surfaceOf commandOf unusedZero formed insideImage placed lineWords wordsTaken commandRows refusal
+rectangles = refl
+
+-- the surface is the one named: 8 pixels to the right there is room on a main image of 16, and none on the window
+pub surfaces : (refusal (screen 8 16 8) 0 (set (set fill 4 8) 1 0) ≡ 0) × (refusal (screen 8 16 8) 0 (set (set fill 4 8) 1 1) ≡ 14)
+unfolding allZero firstOf viewWidth viewHeight mainImage windowImage surfaceOf commandOf unusedZero formed insideImage placed lineWords wordsTaken commandRows refusal
+surfaces = (refl, refl)
+
+-- an answer and its number
+pub answers : (commandAnswer (screen 8 8 4) 0 fill ≡ Accepted (command 0 0 0 2 1 3 2 0 0 0))
+    × (commandAnswer (screen 8 8 4) 3 write ≡ Refused 15)
+    × (numberOf (Accepted (command 0 0 0 2 1 3 2 0 0 0)) ≡ 0)
+    × (numberOf (Refused 15) ≡ 15)
+unfolding allZero firstOf viewWidth viewHeight mainImage windowImage surfaceOf commandOf unusedZero formed insideImage placed lineWords wordsTaken commandRows refusal commandAnswer numberOf
+answers = (refl, refl, refl, refl)

@@ -14,8 +14,9 @@ use Rattle.screen.specs.Cases.{plain}
 use Rattle.command.specs.Command.{commandOf, surfaceOf, unusedZero, formed, insideImage, placed, lineWords, wordsTaken, commandRows, refusal}
 use Rattle.command.specs.Values.{addressOf, destinationOf, sourceOf, isNegative, lastColumn, lastLine, commandValue, sourceValue, destinationValue, controlValue, blitValues}
 use Rattle.compiler.specs.Stream.{partsFrom, partsOf, recordsWith, screenRecords, dataRecords, commandRecords, drawRecords, recordsFor}
-use Rattle.compiler.specs.Compile.{listRows, firstRefusal, allWords, endRows, refusalOf, compiling, streamOf, bufferAfter, numbersOf}
+use Rattle.compiler.specs.Compile.{listRows, firstRefusal, allWords, endRows, refusalOf, compiling, streamOf, bufferAfter, compilingOf, answerOf, numbersOf}
 use Rattle.compiler.specs.Part.{partFrom, partSize}
+use Rattle.compiler.specs.declared.Compiled.the-variants.{Accepted, Refused}
 
 -- a screen record, a list, host words, and a buffer of `room` sevens, of which the first `shown` bytes are asked for
 pub record Case : Type 0 where
@@ -53,6 +54,10 @@ refusedCommand n i = record { numbers = n ∷ i ∷ 0 ∷ 0 ∷ 0 ∷ 0 ∷ []; 
 -- 320 by 240 at a depth, base 0
 abbrev panel : ℕ → List ℕ
 panel depth = plain depth 0 320 240 0
+
+-- the same at depth 8 with a window of 8 by 1 whose base is 2
+abbrev badWindow : List ℕ
+badWindow = 8 ∷ 0 ∷ 1 ∷ 0 ∷ 64 ∷ 1 ∷ 240 ∷ 0 ∷ 0 ∷ 0 ∷ 0 ∷ 0 ∷ 2 ∷ 0 ∷ 0 ∷ 0 ∷ 0 ∷ 0 ∷ 0 ∷ 0 ∷ 8 ∷ 0 ∷ 1 ∷ replicate 9 0
 
 -- B1's fill; a move by one pixel to the right; a write of three by two pixels
 abbrev fill : List ℕ
@@ -113,6 +118,15 @@ cases =
     ∷ case (panel 8) (fill ++ write ++ write) (0x201 ∷ 3 ∷ fourWords) 1000 2
     ∷ case (panel 8) (fill ++ write) (0 ∷ fourWords) 1000 2
     ∷ case (panel 8) fill [] 119 2
+    -- two rows at once: 9 and 10, 10 and 11, 11 and 12, 12 and 16, 16 and 17; commands refused by 12 and 12, 14 and 12, 15 and 12
+    ∷ case badWindow (0 ∷ fill) [] 120 2
+    ∷ case (panel 4) (0 ∷ fill) [] 120 2
+    ∷ case (panel 4) strange [] 120 2
+    ∷ case (panel 8) strange fourWords 1000 2
+    ∷ case (panel 8) fill fourWords 48 2
+    ∷ case (panel 8) (fill ++ strange ++ strange) [] 1000 2
+    ∷ case (panel 8) (fill ++ outside ++ strange) [] 1000 2
+    ∷ case (panel 8) (write ++ strange) [] 1000 2
     ∷ []
 
 abbrev expected : List Result
@@ -133,8 +147,24 @@ expected =
     ∷ refusedCommand 15 2
     ∷ refused 16
     ∷ refused 17
+    ∷ refused 9
+    ∷ refused 10
+    ∷ refused 11
+    ∷ refusedCommand 12 0
+    ∷ refused 16
+    ∷ refusedCommand 12 1
+    ∷ refusedCommand 14 1
+    ∷ refusedCommand 15 0
     ∷ []
 
 pub cases-hold : map run cases ≡ expected
 unfolding allZero recordBytes streamBytes firstOf isDepth imageEnd startOf fieldsOf wellFormed panelOk viewWidth viewHeight wholeDwords mainImage windowImage imageOk windowOk windowWhole fieldRows screenRows windowX windowY originOf valuesOf commandOf surfaceOf unusedZero formed insideImage placed lineWords wordsTaken commandRows refusal addressOf destinationOf sourceOf isNegative lastColumn lastLine commandValue sourceValue destinationValue controlValue blitValues partsFrom partsOf recordsWith screenRecords dataRecords commandRecords drawRecords recordsFor listRows firstRefusal allWords endRows refusalOf compiling streamOf bufferAfter numbersOf partFrom partSize
 cases-hold = refl
+
+-- the numbers of an answer, and the answer with these numbers
+pub answers : (compilingOf (Refused 14 7) ≡ record { number = 14; place = 7; length = 0; depth = 0; rotation = 0; flag = 0 })
+    × (compilingOf (Accepted 120 8 1 0) ≡ record { number = 0; place = 0; length = 120; depth = 8; rotation = 1; flag = 0 })
+    × (answerOf (record { number = 14; place = 7; length = 0; depth = 0; rotation = 0; flag = 0 }) ≡ Refused 14 7)
+    × (answerOf (record { number = 0; place = 0; length = 120; depth = 8; rotation = 1; flag = 0 }) ≡ Accepted 120 8 1 0)
+unfolding compilingOf answerOf
+answers = (refl, refl, refl, refl)

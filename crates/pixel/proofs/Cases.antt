@@ -2,7 +2,7 @@
 -- "bit (2s + d) of c".
 use mathlib.Core.Path.{_≡_, refl}
 use mathlib.Core.Bool.{true, false}
-use mathlib.Core.List.{List, [], _∷_}
+use mathlib.Core.List.{List, [], _∷_, map}
 use Prim.Native.Nat.{ℕ}
 use Rattle.pixel.specs.Depth.{isDepth, perDword}
 use Rattle.pixel.specs.Pixel.{getPixel, putPixel, byteOf, dwordPixel}
@@ -42,3 +42,9 @@ pub raster-cases : (bit 6 2 ≡ 1)
     × (raster 4 4 0xC 0xA ≡ 4)
 unfolding bitwise
 raster-cases = (refl, refl, refl, refl, refl, refl)
+
+-- source 1100 and destination 1010 make the code itself, for each of the sixteen
+pub all-codes : map (λ c. raster 4 c 0xC 0xA) (0 ∷ 1 ∷ 2 ∷ 3 ∷ 4 ∷ 5 ∷ 6 ∷ 7 ∷ 8 ∷ 9 ∷ 10 ∷ 11 ∷ 12 ∷ 13 ∷ 14 ∷ 15 ∷ [])
+    ≡ 0 ∷ 1 ∷ 2 ∷ 3 ∷ 4 ∷ 5 ∷ 6 ∷ 7 ∷ 8 ∷ 9 ∷ 10 ∷ 11 ∷ 12 ∷ 13 ∷ 14 ∷ 15 ∷ []
+unfolding bitwise
+all-codes = refl

@@ -1,4 +1,5 @@
 pub mod Cases
+pub mod Refusals
 pub mod View
 pub mod Read
 pub mod Accepted

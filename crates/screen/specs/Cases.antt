@@ -1,34 +1,33 @@
--- 01's cases S1 to S9 (01, "Cases"), each as what the definitions give beside what the paper says of it.
+-- 01's cases S1 to S9 (01, "Cases"), each as the numbers that the definitions give beside the numbers that the paper names.
 use Prim.Native.Nat.{ℕ, _/_, _%_}
 use mathlib.Core.List.{List, [], _∷_, _++_}
-use mathlib.Core.Bool.{Bool, true, _&&_}
-use lib.ListN.{getD}
+use mathlib.Core.Bool.{Bool, true, false, _&&_}
 use lib.Dec.{eqb}
 use Rattle.record.specs.Bytes.{fourBytes}
 use Rattle.screen.specs.Screen.{screenOf, memorySize}
-use Rattle.screen.specs.Values.{valuesOf, edges}
+use Rattle.screen.specs.Values.{valuesOf}
 use Rattle.screen.specs.declared.ScreenAnswer.{ScreenAnswer}
 use Rattle.screen.specs.declared.ScreenAnswer.the-variants.{Accepted, Refused}
 
--- one number that a case must give, by its place in what is given
-pub record Given : Type 0 where
-  pub place : ℕ
-  pub value : ℕ
-
--- a case: the numbers that the definitions give, and those of them that the paper names
+-- a case: the numbers that the definitions give, and the paper's
 pub record Case : Type 0 where
   pub gives : List ℕ
-  pub named : List Given
+  pub paper : List ℕ
 
--- every named number is given
-abbrev pub holds : List ℕ → List Given → Bool
-holds g [] = true
-holds g (v ∷ vs) = eqb (getD g (v .place) 0) (v .value) && holds g vs
+abbrev pub case : List ℕ → List ℕ → Case
+case gives paper = record { gives = gives; paper = paper }
 
--- every case holds
+-- the same numbers, all of them and no more
+abbrev pub same : List ℕ → List ℕ → Bool
+same [] [] = true
+same [] (y ∷ ys) = false
+same (x ∷ xs) [] = false
+same (x ∷ xs) (y ∷ ys) = eqb x y && same xs ys
+
+-- every case gives the paper's numbers
 unfoldable pub allHold : List Case → Bool
 allHold [] = true
-allHold (c ∷ cs) = holds (c .gives) (c .named) && allHold cs
+allHold (c ∷ cs) = same (c .gives) (c .paper) && allHold cs
 
 abbrev pub twoBytes : ℕ → List ℕ
 twoBytes n = n % 256 ∷ n / 256 ∷ []
@@ -43,41 +42,37 @@ abbrev pub withWindow : ℕ → ℕ → ℕ → ℕ → ℕ → List ℕ
 withWindow rotation x y width height =
     4 ∷ rotation ∷ 1 ∷ 0 ∷ twoBytes 320 ++ twoBytes 240 ++ fourBytes 0 ++ fourBytes 0 ++ twoBytes x ++ twoBytes y ++ twoBytes width ++ twoBytes height ++ fourBytes 0 ++ fourBytes 0
 
--- what a screen record gives: the refusal number, then the six values
-abbrev pub given : ScreenAnswer → List ℕ
-given (Refused n) = n ∷ []
-given (Accepted s) =
-    let v = valuesOf s in
-    0 ∷ v .main .start ∷ v .main .offset ∷ v .window .start ∷ v .window .offset ∷ v .x ∷ v .y ∷ []
+-- the refusal number, then on acceptance the main image's start and offset
+abbrev main : ScreenAnswer → List ℕ
+main (Refused n) = n ∷ []
+main (Accepted s) = let v = valuesOf s in 0 ∷ v .main .start ∷ v .main .offset ∷ []
 
-abbrev number : ℕ → Given
-number v = record { place = 0; value = v }
+-- the refusal number, then on acceptance X start, X end, Y start and Y end: the low and the high half of each position register
+abbrev window : ScreenAnswer → List ℕ
+window (Refused n) = n ∷ []
+window (Accepted s) = let v = valuesOf s in 0 ∷ v .x % 65536 ∷ v .x / 65536 ∷ v .y % 65536 ∷ v .y / 65536 ∷ []
 
-abbrev start : ℕ → Given
-start v = record { place = 1; value = v }
+-- the refusal number alone
+abbrev number : ScreenAnswer → List ℕ
+number (Refused n) = n ∷ []
+number (Accepted s) = 0 ∷ []
 
-abbrev offset : ℕ → Given
-offset v = record { place = 2; value = v }
-
-abbrev across : ℕ → Given
-across v = record { place = 5; value = v }
-
-abbrev down : ℕ → Given
-down v = record { place = 6; value = v }
-
-abbrev screen : List ℕ → List Given → Case
-screen b n = record { gives = given (screenOf memorySize b); named = n }
+abbrev answer : List ℕ → ScreenAnswer
+answer b = screenOf memorySize b
 
 unfoldable pub screenCases : List Case
 screenCases =
-    screen (plain 4 0 320 240 0) (number 0 ∷ start 0 ∷ offset 0x28 ∷ [])
-    ∷ screen (plain 4 1 320 240 0) (number 0 ∷ start 0x1D ∷ offset 0x1E ∷ [])
-    ∷ screen (plain 4 2 320 240 0) (number 0 ∷ start 0x257F ∷ offset 0x28 ∷ [])
-    ∷ screen (plain 4 3 320 240 0) (number 0 ∷ start 0x2562 ∷ offset 0x1E ∷ [])
-    ∷ screen (withWindow 1 64 80 120 160) (number 0 ∷ across (edges 0x50 0xEF) ∷ down (edges 0x07 0x15) ∷ [])
-    ∷ screen (withWindow 3 64 80 120 160) (number 0 ∷ across (edges 0x50 0xEF) ∷ down (edges 0x08 0x16) ∷ [])
-    ∷ screen (withWindow 2 80 60 160 120) (number 0 ∷ across (edges 0x0A 0x1D) ∷ down (edges 0x3C 0xB3) ∷ [])
-    ∷ screen (withWindow 0 4 0 8 1) (number 8 ∷ [])
-    ∷ screen (plain 2 0 1024 1024 0) (number 0 ∷ [])
-    ∷ screen (plain 2 0 1024 1024 4) (number 6 ∷ [])
+    -- S1 to S4: start and offset
+    case (main (answer (plain 4 0 320 240 0))) (0 ∷ 0 ∷ 0x28 ∷ [])
+    ∷ case (main (answer (plain 4 1 320 240 0))) (0 ∷ 0x1D ∷ 0x1E ∷ [])
+    ∷ case (main (answer (plain 4 2 320 240 0))) (0 ∷ 0x257F ∷ 0x28 ∷ [])
+    ∷ case (main (answer (plain 4 3 320 240 0))) (0 ∷ 0x2562 ∷ 0x1E ∷ [])
+    -- S5 to S7: X from and to, Y from and to
+    ∷ case (window (answer (withWindow 1 64 80 120 160))) (0 ∷ 0x50 ∷ 0xEF ∷ 0x07 ∷ 0x15 ∷ [])
+    ∷ case (window (answer (withWindow 3 64 80 120 160))) (0 ∷ 0x50 ∷ 0xEF ∷ 0x08 ∷ 0x16 ∷ [])
+    ∷ case (window (answer (withWindow 2 80 60 160 120))) (0 ∷ 0x0A ∷ 0x1D ∷ 0x3C ∷ 0xB3 ∷ [])
+    -- S8, S9
+    ∷ case (number (answer (withWindow 0 4 0 8 1))) (8 ∷ [])
+    ∷ case (number (answer (plain 2 0 1024 1024 0))) (0 ∷ [])
+    ∷ case (number (answer (plain 2 0 1024 1024 4))) (6 ∷ [])
     ∷ []

@@ -1,4 +1,5 @@
 pub mod Cases
+pub mod Sheets
 pub mod Shown
 pub mod Rectangles
 pub mod Painted
