@@ -12,9 +12,10 @@ use Rattle.pixel.specs.Raster.{bitwise}
 use Rattle.blit.specs.Blit.{pixels, chipLine, chipLines, chipBlit}
 use Rattle.blit.specs.Words.{wordPixel, chipWord}
 use Rattle.chip.specs.Register.{listed, fits, screenAfter, blitAfter}
-use Rattle.chip.specs.Start.{startable, span, within, fillOf, moveOf, writeOf, started}
+use Rattle.chip.specs.Start.{operation, rasterCode, bytesOf, sourceOf, destinationOf, lineOf, widthOf, heightOf, foregroundOf, startable, span, within, fillOf, moveOf, writeOf, started}
 use Rattle.chip.specs.Admit.{admitRows, refusal, dueAfter, dueOf, chipAfter, effect}
 use Rattle.chip.specs.Play.{newChip, run, applied, ending, playing, played, playingOf, answerOf}
+use Rattle.chip.specs.declared.Registers.{Registers}
 use Rattle.chip.specs.declared.Chip.{Chip}
 use Rattle.chip.specs.declared.Played.the-variants.{Refused}
 use Rattle.chip.proofs.Runs.{reached}
@@ -155,6 +156,14 @@ pub keeps : run 262144 newChip 0 (screenRecords 1 2 3 4 5 6 ++ commandRecords 0x
 unfolding firstOf listed fits screenAfter blitAfter startable span within admitRows refusal dueAfter dueOf chipAfter newChip run
 keeps = refl
 
+-- each field is read by its bits, up to its last value
+abbrev full : Registers
+full = record { control = 0x40001; command = 0xF000F; source = 0x3FFFF; destination = 0x3FFFE; offset = 0x7FF; width = 0x3FF; height = 0x3FE; background = 0xFFFF; foreground = 0xFFFF }
+
+pub reads : operation full ∷ rasterCode full ∷ bytesOf full ∷ sourceOf full ∷ destinationOf full ∷ lineOf full ∷ widthOf full ∷ heightOf full ∷ foregroundOf full ∷ []
+    ≡ 15 ∷ 15 ∷ 2 ∷ 0x3FFFF ∷ 0x3FFFE ∷ 0xFFE ∷ 1024 ∷ 1023 ∷ 0xFFFF ∷ []
+reads = refl
+
 -- ---- starts, in a memory of eight bytes
 
 -- the refusal of a start with these registers: operation and raster code, source, destination, width and height less one; lines four bytes apart
@@ -258,3 +267,14 @@ pub write-played : (playing 8 (streamBytes write) line8 .number ≡ 0)
     × (played 8 (streamBytes write) line8 ≡ 1 ∷ 3 ∷ 1 ∷ 7 ∷ 5 ∷ 2 ∷ 2 ∷ 14 ∷ [])
 unfolding firstOf recordBytes streamBytes recordAt recordsFrom recordsOf getPixel putPixel bitwise pixels chipLine chipLines chipBlit wordPixel chipWord listed fits screenAfter blitAfter startable span within fillOf moveOf writeOf started admitRows refusal dueAfter dueOf chipAfter effect newChip run applied ending playing played
 write-played = (refl, refl)
+
+-- at depth 16: a fill of two pixels from address 2 with FF0Fh, then a move of one pixel from 0 to 4 under exclusive or
+abbrev wide : List Record
+wide =
+    recordWith 0x8008 0xC ∷ recordWith 0x8010 2 ∷ recordWith 0x8018 1 ∷ recordWith 0x8024 0xFF0F ∷ recordWith 0x8000 0x40001
+    ∷ recordWith 0x8008 0x60002 ∷ recordWith 0x8010 4 ∷ recordWith 0x8018 0 ∷ recordWith 0x8000 0x40001 ∷ []
+
+pub wide-played : (playing 8 (streamBytes wide) line8 .number ≡ 0)
+    × (played 8 (streamBytes wide) line8 ≡ 1 ∷ 2 ∷ 0x0F ∷ 0xFF ∷ 0x0E ∷ 0xFD ∷ 7 ∷ 8 ∷ [])
+unfolding firstOf recordBytes streamBytes recordAt recordsFrom recordsOf getPixel putPixel bitwise pixels chipLine chipLines chipBlit listed fits screenAfter blitAfter startable span within fillOf moveOf started admitRows refusal dueAfter dueOf chipAfter effect newChip run applied ending playing played
+wide-played = (refl, refl)

@@ -8,7 +8,7 @@ use Rattle.record.specs.Checks.{firstOf}
 use Rattle.screen.specs.Screen.{viewWidth, viewHeight, mainImage, windowImage}
 use Rattle.screen.specs.declared.Screen.{Screen}
 use Rattle.command.specs.Command.{commandOf, surfaceOf, unusedZero, formed, insideImage, placed, lineWords, wordsTaken, commandRows, refusal, commandAnswer, numberOf}
-use Rattle.command.specs.Values.{addressOf, destinationOf, sourceOf, isNegative, lastColumn, lastLine, commandValue, sourceValue, destinationValue, controlValue, blitValues}
+use Rattle.command.specs.Values.{addressOf, destinationOf, sourceOf, isNegative, lastColumn, lastLine, commandValue, sourceValue, destinationValue, controlValue, blitRegisters, blitValues}
 use Rattle.command.specs.declared.Command.{Command}
 use Rattle.command.specs.declared.CommandAnswer.the-variants.{Accepted, Refused}
 
@@ -46,6 +46,10 @@ pub values-hold : (blitValues (screen 8 320 240) (command 0 0 0 10 20 100 150 0 
     × (blitValues (screen 16 8 4) (command 2 1 0xC 2 1 3 2 0 0 0) ≡ 0xC0000 ∷ 0 ∷ 1044 ∷ 8 ∷ 2 ∷ 1 ∷ 0 ∷ 0 ∷ 0x40001 ∷ [])
 unfolding viewWidth viewHeight mainImage windowImage surfaceOf addressOf destinationOf sourceOf isNegative lastColumn lastLine commandValue sourceValue destinationValue controlValue blitValues
 values-hold = (refl, refl, refl, refl)
+
+-- the nine records of a command, in the stream's order
+pub registers-hold : blitRegisters ≡ 0x8008 ∷ 0x800C ∷ 0x8010 ∷ 0x8014 ∷ 0x8018 ∷ 0x801C ∷ 0x8020 ∷ 0x8024 ∷ 0x8000 ∷ []
+registers-hold = refl
 
 -- a write of 3 by 2 pixels takes two words a line at depth 8, and three at 16; another command takes none
 pub words-hold : (wordsTaken (screen 8 8 4) (command 2 0 0xC 0 0 3 2 0 0 0) ≡ 4)

@@ -10,7 +10,7 @@ use Rattle.pixel.specs.Depth.{isDepth}
 use Rattle.screen.specs.Image.{imageEnd, startOf}
 use Rattle.screen.specs.Screen.{memorySize, fieldsOf, wellFormed, panelOk, viewWidth, viewHeight, wholeDwords, mainImage, windowImage, imageOk, windowOk, windowWhole, fieldRows, screenRows}
 use Rattle.screen.specs.Values.{windowX, windowY, originOf, valuesOf}
-use Rattle.screen.specs.Cases.{plain}
+use Rattle.screen.specs.Cases.{plain, withWindow}
 use Rattle.command.specs.Command.{commandOf, surfaceOf, unusedZero, formed, insideImage, placed, lineWords, wordsTaken, commandRows, refusal}
 use Rattle.command.specs.Values.{addressOf, destinationOf, sourceOf, isNegative, lastColumn, lastLine, commandValue, sourceValue, destinationValue, controlValue, blitValues}
 use Rattle.compiler.specs.Stream.{partsFrom, partsOf, recordsWith, screenRecords, dataRecords, commandRecords, drawRecords, recordsFor}
@@ -59,6 +59,10 @@ panel depth = plain depth 0 320 240 0
 abbrev badWindow : List ℕ
 badWindow = 8 ∷ 0 ∷ 1 ∷ 0 ∷ 64 ∷ 1 ∷ 240 ∷ 0 ∷ 0 ∷ 0 ∷ 0 ∷ 0 ∷ 2 ∷ 0 ∷ 0 ∷ 0 ∷ 0 ∷ 0 ∷ 0 ∷ 0 ∷ 8 ∷ 0 ∷ 1 ∷ replicate 9 0
 
+-- S6's screen: turned by 270 degrees, with a window
+abbrev turned : List ℕ
+turned = withWindow 3 64 80 120 160
+
 -- B1's fill; a move by one pixel to the right; a write of three by two pixels
 abbrev fill : List ℕ
 fill = 0 ∷ 0 ∷ 0 ∷ 0 ∷ 10 ∷ 0 ∷ 20 ∷ 0 ∷ 100 ∷ 0 ∷ 150 ∷ 0 ∷ 0 ∷ 0 ∷ 0 ∷ 0 ∷ 1 ∷ replicate 15 0
@@ -93,19 +97,24 @@ fillBytes = streamBytes (recordWith 0x8008 0xC ∷ recordWith 0x800C 0 ∷ recor
 abbrev moveBytes : List ℕ
 moveBytes = streamBytes (recordWith 0x8008 0xC0003 ∷ recordWith 0x800C 6 ∷ recordWith 0x8010 7 ∷ recordWith 0x8014 0xA0 ∷ recordWith 0x8018 6 ∷ recordWith 0x801C 0 ∷ recordWith 0x8020 0 ∷ recordWith 0x8024 0 ∷ recordWith 0x8000 1 ∷ [])
 
-abbrev writeBytes : List ℕ
-writeBytes = streamBytes (recordWith 0x8008 0xC0000 ∷ recordWith 0x800C 0 ∷ recordWith 0x8010 1 ∷ recordWith 0x8014 0xA0 ∷ recordWith 0x8018 2 ∷ recordWith 0x801C 1 ∷ recordWith 0x8020 0 ∷ recordWith 0x8024 0 ∷ recordWith 0x8000 1 ∷ recordWith 0x10000 0x201 ∷ recordWith 0x10000 3 ∷ recordWith 0x10000 0x504 ∷ recordWith 0x10000 6 ∷ [])
+abbrev writeBytes : List ℕ → List ℕ
+writeBytes words = streamBytes (recordWith 0x8008 0xC0000 ∷ recordWith 0x800C 0 ∷ recordWith 0x8010 1 ∷ recordWith 0x8014 0xA0 ∷ recordWith 0x8018 2 ∷ recordWith 0x801C 1 ∷ recordWith 0x8020 0 ∷ recordWith 0x8024 0 ∷ recordWith 0x8000 1 ∷ map (recordWith 0x10000) words)
 
 abbrev fourWords : List ℕ
 fourWords = 0x201 ∷ 3 ∷ 0x504 ∷ 6 ∷ []
 
--- B4, B1, two commands, three with a write's words, 64 commands; then 1, 2, 10 twice, 11, 12 to 14, 15, 16 and 17
+abbrev fourWords′ : List ℕ
+fourWords′ = 0xA09 ∷ 0xB ∷ 0xD0C ∷ 0xE ∷ []
+
+-- B4, B1, two commands, three with a write's words, two writes, a screen turned by 270 degrees with a window, 64 commands; then 1, 2, 10 twice, 11, 12 to 14, 15, 16 and 17
 abbrev cases : List Case
 cases =
     case (panel 1) [] [] 50 50
     ∷ case (panel 8) fill [] 122 122
     ∷ case (panel 8) (fill ++ move) [] 194 194
     ∷ case (panel 8) (fill ++ write ++ move) fourWords 298 298
+    ∷ case (panel 8) (write ++ write) (fourWords ++ fourWords′) 256 256
+    ∷ case turned [] [] 48 0
     ∷ case (panel 8) (times 64 fill) [] 4656 0
     ∷ case [] [] [] 48 2
     ∷ case (panel 3) (times 65 fill) [] 48 2
@@ -134,7 +143,9 @@ expected =
     accepted 48 1 (screenBytes 0xA ++ (7 ∷ 7 ∷ []))
     ∷ accepted 120 8 (screenBytes 0x50 ++ fillBytes ++ (7 ∷ 7 ∷ []))
     ∷ accepted 192 8 (screenBytes 0x50 ++ fillBytes ++ moveBytes ++ (7 ∷ 7 ∷ []))
-    ∷ accepted 296 8 (screenBytes 0x50 ++ fillBytes ++ writeBytes ++ moveBytes ++ (7 ∷ 7 ∷ []))
+    ∷ accepted 296 8 (screenBytes 0x50 ++ fillBytes ++ writeBytes fourWords ++ moveBytes ++ (7 ∷ 7 ∷ []))
+    ∷ accepted 256 8 (screenBytes 0x50 ++ writeBytes fourWords ++ writeBytes fourWords′)
+    ∷ record { numbers = 0 ∷ 0 ∷ 48 ∷ 4 ∷ 3 ∷ 1 ∷ []; from = 0; size = 0; bytes = [] }
     ∷ accepted 4656 8 []
     ∷ refused 1
     ∷ refused 2
