@@ -1,47 +1,14 @@
 /* S1D13A05 display unit: compiling a drawing list, playing its stream over a display memory, and
- * reading what a panel point shows.
+ * reading what a panel point shows. docs/FORMATS.md has the records, registers and pixels by bytes
+ * and bits, and docs/TRUST.md what is proved and what is assumed.
  *
- * Pointers. Each pointer is followed by its length in elements. It is valid for that length, and not
- * null even where the length is 0. A buffer that is written overlaps no other one of the same call.
- * No function keeps a pointer, allocates, or blocks.
+ * Pointers. Each pointer is followed by its length in elements, but for values, which has six. It is
+ * valid for that length, and not null even where the length is 0. A buffer that is written overlaps
+ * no other one of the same call. No function keeps a pointer, allocates, or blocks.
  *
- * Answers. number is 0 where the input is accepted, else one of the refusals below.
- * A refusal leaves every buffer as it was, and every other number of the answer is 0, but for
- * place (and the part, in s1d_compile), where they name the culprit.
- *
- *   No.  place    given exactly when
- *    0   0        accepted
- *    1   0        screen record not 32 bytes, flag above 1, or a byte that must be zero is not
- *    2   0        depth not 1, 2, 4, 8 or 16
- *    3   0        rotation above 3
- *    4   0        panel width not a multiple of 8 in 8 to 1024, or height not 1 to 1024
- *    5   0        view width not a multiple of 32 / depth
- *    6   0        main base not a multiple of 4, or its image ends past byte 262144
- *    7   0        window width or height 0, or window outside the view
- *    8   0        window x or width not a multiple of 32 / depth
- *    9   0        window base not a multiple of 4, or its image ends past byte 262144
- *   10   0        list not a multiple of 32 bytes, or over 64 commands
- *   11   0        a command is present and depth is below 8
- *   12   command  operation above 2, no such surface, raster code above 15, colour above 255 at
- *                 depth 8, or a byte that must be zero is not
- *   13   command  rectangle width or height 0
- *   14   command  destination, or a move's source, not inside the surface
- *   15   command  too few host words for this and the earlier writes
- *   16   0        host words left over at the end
- *   17   0        stream buffer shorter than the stream
- *   18   0        memory not 262144 bytes
- *   19   0        stream not a multiple of 8 bytes
- *   20   record   number not a listed register nor 10000h
- *   21   record   value outside its field, or a start that the model has no operation for
- *                 (in s1d_read_point: a value outside its field, no place)
- *   22   record   a started blit would touch a byte outside the memory
- *   23   record   data word when none is due; a register write, or the stream's end, while one is
- *                 due (at the end, place is the number of records)
- *   24   -        panel point outside the panel
- *   25   -        the point's dword address outside 0 to 65535
- *
- * Places count from 0. Of several refusals the lowest number is given, but that commands (12 to 15)
- * and stream records (20 to 23) are checked one after another. 7 to 9 apply with flag 1 only.
+ * Answers. number is 0 where the input is accepted, else the refusal, one of s1d_refusal. A refusal
+ * leaves every buffer as it was, and every other number of the answer is 0, but for place (and the
+ * part, in s1d_compile), where they name the culprit.
  */
 #ifndef S1D_H
 #define S1D_H
@@ -53,10 +20,74 @@
 extern "C" {
 #endif
 
-#define S1D_SCREEN_LENGTH 32      /* bytes of a screen record */
-#define S1D_COMMAND_LENGTH 32     /* bytes of a command */
-#define S1D_COMMANDS 64           /* most commands of a list */
-#define S1D_MEMORY_LENGTH 262144  /* bytes of the display memory */
+#define S1D_SCREEN_LENGTH 32       /* bytes of a screen record */
+#define S1D_COMMAND_LENGTH 32      /* bytes of a command */
+#define S1D_COMMANDS 64            /* most commands of a list */
+#define S1D_STREAM_RECORD_LENGTH 8 /* bytes of a stream record */
+#define S1D_MEMORY_LENGTH 262144   /* bytes of the display memory */
+
+/* Bytes of the stream of so many commands and host words: six records for the screen, nine for each
+ * command and one for each word. */
+#define S1D_STREAM_LENGTH(commands, words) \
+    (S1D_STREAM_RECORD_LENGTH * (6 + 9 * (size_t)(commands) + (size_t)(words)))
+
+/* Byte 0 of a command. */
+enum s1d_operation {
+    S1D_FILL = 0,
+    S1D_MOVE = 1,
+    S1D_WRITE = 2
+};
+
+/* Byte 1 of a command. */
+enum s1d_surface {
+    S1D_MAIN = 0,
+    S1D_WINDOW = 1
+};
+
+/* Byte 2 of a move or a write: bit 2s + d is the result of source bit s and destination bit d. */
+enum s1d_raster {
+    S1D_XOR = 0x6,
+    S1D_AND = 0x8,
+    S1D_COPY = 0xC,
+    S1D_OR = 0xE
+};
+
+/* Refusals. The first whose text holds is given, in the order of the numbers, but that commands (12
+ * to 15) and stream records (20 to 23) are checked one after another; s1d_read_point and s1d_draw name
+ * their own order. 7 to 9 apply with flag 1 only.
+ *
+ * place is the command's index for 12 to 15, the stream record's for 20 to 23, else 0. Both count
+ * from 0. */
+enum s1d_refusal {
+    S1D_ACCEPTED = 0,           /* none: accepted */
+    S1D_SCREEN_FORM = 1,        /* screen record not 32 bytes, flag above 1, or a byte that must be zero is not */
+    S1D_DEPTH = 2,              /* depth not 1, 2, 4, 8 or 16 */
+    S1D_ROTATION = 3,           /* rotation above 3 */
+    S1D_PANEL_SIZE = 4,         /* panel width not a multiple of 8 in 8 to 1024, or height not 1 to 1024 */
+    S1D_VIEW_WIDTH = 5,         /* view width not a multiple of 32 / depth */
+    S1D_MAIN_IMAGE = 6,         /* main base not a multiple of 4, or its image ends past byte 262144 */
+    S1D_WINDOW_PLACE = 7,       /* window width or height 0, or window outside the view */
+    S1D_WINDOW_DWORDS = 8,      /* window x or width not a multiple of 32 / depth */
+    S1D_WINDOW_IMAGE = 9,       /* window base not a multiple of 4, or its image ends past byte 262144 */
+    S1D_LIST_FORM = 10,         /* list not a multiple of 32 bytes, or over 64 commands */
+    S1D_LIST_DEPTH = 11,        /* a command is present and depth is below 8 */
+    S1D_COMMAND_FORM = 12,      /* operation above 2, no such surface, raster code above 15, colour above 255 at
+                                   depth 8, or a byte that must be zero is not */
+    S1D_RECTANGLE_EMPTY = 13,   /* rectangle width or height 0 */
+    S1D_RECTANGLE_OUTSIDE = 14, /* destination, or a move's source, not inside the surface */
+    S1D_WORDS_MISSING = 15,     /* too few host words for this and the earlier writes */
+    S1D_WORDS_LEFT = 16,        /* host words left over at the end */
+    S1D_STREAM_ROOM = 17,       /* stream buffer shorter than the stream */
+    S1D_MEMORY_FORM = 18,       /* memory not 262144 bytes */
+    S1D_STREAM_FORM = 19,       /* stream not a multiple of 8 bytes */
+    S1D_RECORD_NUMBER = 20,     /* number not a listed register nor 10000h */
+    S1D_RECORD_VALUE = 21,      /* value outside its field, or a start that the model has no operation for */
+    S1D_BLIT_OUTSIDE = 22,      /* a started blit would touch a byte outside the memory */
+    S1D_DATA_DUE = 23,          /* data word when none is due; a register write, or the stream's end, while one
+                                   is due (at the end, place is the number of records) */
+    S1D_POINT_OUTSIDE = 24,     /* panel point outside the panel */
+    S1D_POINT_ADDRESS = 25      /* the point's dword address outside 0 to 65535 */
+};
 
 typedef struct s1d_compiled {
     uint32_t number;
@@ -83,15 +114,14 @@ typedef struct s1d_point {
 typedef struct s1d_drawn {
     uint32_t number;
     uint64_t place;
-    uint64_t length;
-    uint32_t values[6];
+    uint64_t length;    /* bytes of the stream */
+    uint32_t values[6]; /* as in s1d_played */
 } s1d_drawn;
 
-/* Compiles a screen record and a list of commands into a stream of 8-byte records: register number,
- * or 10000h for a data word, then value, both little-endian. words are the pixels of the writes, in
- * order. The answer has the stream's length and the depth, rotation and flag for the settings
- * register; bytes past the stream keep their contents. 48 bytes, 72 for each command and 8 for each
- * host word always suffice. Refusals 1 to 17. */
+/* Compiles a screen record and a list of commands into a stream. words are the pixels of the writes,
+ * in order. The answer has the stream's length and the depth, rotation and flag for the settings
+ * register; bytes past the stream keep their contents. S1D_STREAM_LENGTH of the list's commands and
+ * of words_length is room enough. Refusals 1 to 17. */
 s1d_compiled s1d_compile(const uint8_t *screen, size_t screen_length,
                          const uint8_t *list, size_t list_length,
                          const uint16_t *words, size_t words_length,
@@ -105,7 +135,8 @@ s1d_played s1d_play(const uint8_t *stream, size_t stream_length,
 
 /* The colour at panel point (p, q), of a panel of width by height, for the settings that s1d_compile
  * gave and the six values that s1d_play gave. Changes nothing.
- * Refusals, in the order of checking: 18, 1 (flag above 1), 2, 3, 4, 5, 21, 24, 25. */
+ * Refusals, in the order of checking: 18, 1 (flag above 1), 2, 3, 4, 5, 21 (one of values outside its
+ * field), 24, 25. */
 s1d_point s1d_read_point(uint32_t depth, uint32_t rotation, uint32_t flag,
                          uint32_t width, uint32_t height, const uint32_t values[6],
                          uint32_t p, uint32_t q,

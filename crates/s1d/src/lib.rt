@@ -135,8 +135,8 @@ pub extern "C" fn s1d_play(stream: &[u8], memory: &mut [u8]) -> S1dPlayed
             place: 0,
             values: six_values(v),
         },
-        Played::Refused(number, place) => S1dPlayed {
-            number,
+        Played::Refused(fault, place) => S1dPlayed {
+            number: fault,
             place: place as u64,
             values: [0, 0, 0, 0, 0, 0],
         },
@@ -209,15 +209,15 @@ pub extern "C" fn s1d_draw(
 {
     let answer = unit_code::draw(screen, list, words, stream, memory);
     match answer {
-        Drawn::Accepted(length, v) => S1dDrawn {
+        Drawn::Accepted(size, v) => S1dDrawn {
             number: 0,
             place: 0,
-            length,
+            length: size,
             values: six_values(v),
         },
-        Drawn::Refused(number, place) => S1dDrawn {
+        Drawn::Refused(number, command) => S1dDrawn {
             number,
-            place,
+            place: command,
             length: 0,
             values: [0, 0, 0, 0, 0, 0],
         },

@@ -1,3 +1,4 @@
 pub mod Reaches
 pub mod Window
 pub mod Demand
+pub mod Cases
