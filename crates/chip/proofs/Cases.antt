@@ -123,15 +123,15 @@ no-numbers = refl
 
 -- the last value of each field; 8000h and 8008h have two fields each
 pub last-values : (fits 0x40 0xFFFF ∷ fits 0x44 0x3FF ∷ fits 0x50 0xFFFF ∷ fits 0x54 0x3FF ∷ fits 0x58 0x3FF03FF ∷ fits 0x5C 0x3FF03FF
-      ∷ fits 0x8000 0x40001 ∷ fits 0x8008 0xF000F ∷ fits 0x800C 0x3FFFF ∷ fits 0x8010 0x3FFFF ∷ fits 0x8014 0x7FF ∷ fits 0x8018 0x3FF
-      ∷ fits 0x801C 0x3FF ∷ fits 0x8020 0xFFFF ∷ fits 0x8024 0xFFFF ∷ fits 0x10000 0xFFFF ∷ [])
+    ∷ fits 0x8000 0x40001 ∷ fits 0x8008 0xF000F ∷ fits 0x800C 0x3FFFF ∷ fits 0x8010 0x3FFFF ∷ fits 0x8014 0x7FF ∷ fits 0x8018 0x3FF
+    ∷ fits 0x801C 0x3FF ∷ fits 0x8020 0xFFFF ∷ fits 0x8024 0xFFFF ∷ fits 0x10000 0xFFFF ∷ [])
     ≡ true ∷ true ∷ true ∷ true ∷ true ∷ true ∷ true ∷ true ∷ true ∷ true ∷ true ∷ true ∷ true ∷ true ∷ true ∷ true ∷ []
 unfolding fits
 last-values = refl
 
 pub next-values : (fits 0x40 0x10000 ∷ fits 0x44 0x400 ∷ fits 0x50 0x10000 ∷ fits 0x54 0x400 ∷ fits 0x58 0x400 ∷ fits 0x58 0x4000000 ∷ fits 0x5C 0x400 ∷ fits 0x5C 0x4000000
-      ∷ fits 0x8000 2 ∷ fits 0x8000 0x80000 ∷ fits 0x8008 0x10 ∷ fits 0x8008 0x100000 ∷ fits 0x800C 0x40000 ∷ fits 0x8010 0x40000 ∷ fits 0x8014 0x800 ∷ fits 0x8018 0x400
-      ∷ fits 0x801C 0x400 ∷ fits 0x8020 0x10000 ∷ fits 0x8024 0x10000 ∷ fits 0x10000 0x10000 ∷ [])
+    ∷ fits 0x8000 2 ∷ fits 0x8000 0x80000 ∷ fits 0x8008 0x10 ∷ fits 0x8008 0x100000 ∷ fits 0x800C 0x40000 ∷ fits 0x8010 0x40000 ∷ fits 0x8014 0x800 ∷ fits 0x8018 0x400
+    ∷ fits 0x801C 0x400 ∷ fits 0x8020 0x10000 ∷ fits 0x8024 0x10000 ∷ fits 0x10000 0x10000 ∷ [])
     ≡ false ∷ false ∷ false ∷ false ∷ false ∷ false ∷ false ∷ false ∷ false ∷ false ∷ false ∷ false ∷ false ∷ false ∷ false ∷ false ∷ false ∷ false ∷ false ∷ false ∷ []
 unfolding fits
 next-values = refl
@@ -249,7 +249,7 @@ in-order = refl
 
 -- all other numbers of a refusal are 0, also where screen registers were written before it; and the answers with such numbers
 pub refused-whole : (playing 8 (streamBytes waiting) line8
-      ≡ record { number = 23; place = 2; values = record { main = record { start = 0; offset = 0 }; window = record { start = 0; offset = 0 }; x = 0; y = 0 } })
+    ≡ record { number = 23; place = 2; values = record { main = record { start = 0; offset = 0 }; window = record { start = 0; offset = 0 }; x = 0; y = 0 } })
     × (answerOf (playing 8 (streamBytes waiting) line8) ≡ Refused 23 2)
     × (playingOf (Refused 23 2) ≡ playing 8 (streamBytes waiting) line8)
     × (played 8 (streamBytes waiting) line8 ≡ line8)
@@ -278,3 +278,12 @@ pub wide-played : (playing 8 (streamBytes wide) line8 .number ≡ 0)
     × (played 8 (streamBytes wide) line8 ≡ 1 ∷ 2 ∷ 0x0F ∷ 0xFF ∷ 0x0E ∷ 0xFD ∷ 7 ∷ 8 ∷ [])
 unfolding firstOf recordBytes streamBytes recordAt recordsFrom recordsOf getPixel putPixel bitwise pixels chipLine chipLines chipBlit listed fits screenAfter blitAfter startable span within fillOf moveOf started admitRows refusal dueAfter dueOf chipAfter effect newChip run applied ending playing played
 wide-played = (refl, refl)
+
+-- a write at depth 16: two pixels from address 4, a word each
+abbrev wide-write : List Record
+wide-write =
+    recordWith 0x8008 0xC0000 ∷ recordWith 0x8010 4 ∷ recordWith 0x8018 1 ∷ recordWith 0x8000 0x40001 ∷ recordWith 0x10000 0x0201 ∷ recordWith 0x10000 0x0403 ∷ []
+
+pub wide-written : (playing 8 (streamBytes wide-write) line8 .number ≡ 0) × (played 8 (streamBytes wide-write) line8 ≡ 1 ∷ 2 ∷ 3 ∷ 4 ∷ 1 ∷ 2 ∷ 3 ∷ 4 ∷ [])
+unfolding firstOf recordBytes streamBytes recordAt recordsFrom recordsOf getPixel putPixel bitwise pixels wordPixel chipWord listed fits screenAfter blitAfter startable span within writeOf started admitRows refusal dueAfter dueOf chipAfter effect newChip run applied ending playing played
+wide-written = (refl, refl)

@@ -39,7 +39,7 @@ module _ (m : ℕ) (c : Chip) (i : ℕ) (r : Record) (rs : List Record) (n : ℕ
       let next = ap (λ (x : Run). ending x n) (run-taken m c i r rs e) in
       let pass = none (rowsAt i (admitRows m c r)) (numbered-at i (admitRows m c r) (numbered m c r)) (number-at i (admitRows m c r) ∙ e) in (
         ap (λ (x : Playing). x .number) next ∙ others .0 ∙ sym (second-part (rowsAt i (admitRows m c r)) rest pass),
-        ap (λ (x : Playing). x .place) next ∙ others .1 ∙ sym (second-place (rowsAt i (admitRows m c r)) rest pass)
+        ap (λ (x : Playing). x .place) next ∙ others .1 ∙ sym (second-place (rowsAt i (admitRows m c r)) rest pass),
       )
 
   row-failed : (refusal m c r ≡ 0 → ⊥) → Says (ending (run m c i (r ∷ rs)) n) (rowsAt i (admitRows m c r) ++ rest)
@@ -49,7 +49,7 @@ module _ (m : ℕ) (c : Chip) (i : ℕ) (r : Record) (rs : List Record) (n : ℕ
       let some : 0 < firstOf (admitRows m c r) = omega arith in
       let some-at : 0 < firstOf (rowsAt i (admitRows m c r)) = omega (arith, number-at i (admitRows m c r)) in (
         ap (λ (x : Playing). x .number) stop ∙ sym (first-part (rowsAt i (admitRows m c r)) rest some-at ∙ number-at i (admitRows m c r)),
-        ap (λ (x : Playing). x .place) stop ∙ sym (first-place (rowsAt i (admitRows m c r)) rest some-at ∙ place-at i (admitRows m c r) some)
+        ap (λ (x : Playing). x .place) stop ∙ sym (first-place (rowsAt i (admitRows m c r)) rest some-at ∙ place-at i (admitRows m c r) some),
       )
 
   pub table-step : Says (ending (run m c i (r ∷ rs)) n) (rowsAt i (admitRows m c r) ++ rest)

@@ -97,11 +97,11 @@ write = bytes 2 2 1 3 2
 -- 12: operation 3, surface 2, raster code 16, colour 256 at depth 8, and each byte that must be zero: 3, 18 and 31, a fill's raster code and
 -- source, a move's colour, a write's source and colour. What an operation uses may be there.
 pub form : map number (
-      fill ∷ move ∷ write ∷ set fill 1 1 ∷ set fill 16 255 ∷ set move 2 15 ∷ set write 2 15
-      ∷ set fill 0 3 ∷ set fill 1 2 ∷ set move 2 16 ∷ set fill 17 1
-      ∷ set fill 3 1 ∷ set fill 18 1 ∷ set fill 31 1
-      ∷ set fill 2 1 ∷ set fill 12 1 ∷ set fill 14 1 ∷ set move 16 1 ∷ set write 12 1 ∷ set write 14 1 ∷ set write 16 1
-      ∷ [])
+    fill ∷ move ∷ write ∷ set fill 1 1 ∷ set fill 16 255 ∷ set move 2 15 ∷ set write 2 15
+    ∷ set fill 0 3 ∷ set fill 1 2 ∷ set move 2 16 ∷ set fill 17 1
+    ∷ set fill 3 1 ∷ set fill 18 1 ∷ set fill 31 1
+    ∷ set fill 2 1 ∷ set fill 12 1 ∷ set fill 14 1 ∷ set move 16 1 ∷ set write 12 1 ∷ set write 14 1 ∷ set write 16 1
+    ∷ [])
     ≡ 0 ∷ 0 ∷ 0 ∷ 0 ∷ 0 ∷ 0 ∷ 0
     ∷ 12 ∷ 12 ∷ 12 ∷ 12
     ∷ 12 ∷ 12 ∷ 12
@@ -121,10 +121,10 @@ screens = (refl, refl)
 
 -- 13: no width, no height; 14: the destination or a move's source one past the surface, to the right and below
 pub rectangles : map number (
-      set fill 8 0 ∷ set fill 10 0
-      ∷ set fill 4 5 ∷ set fill 4 6 ∷ set fill 6 2 ∷ set fill 6 3
-      ∷ set move 12 5 ∷ set move 12 6 ∷ set move 14 2 ∷ set move 14 3
-      ∷ [])
+    set fill 8 0 ∷ set fill 10 0
+    ∷ set fill 4 5 ∷ set fill 4 6 ∷ set fill 6 2 ∷ set fill 6 3
+    ∷ set move 12 5 ∷ set move 12 6 ∷ set move 14 2 ∷ set move 14 3
+    ∷ [])
     ≡ 13 ∷ 13
     ∷ 0 ∷ 14 ∷ 0 ∷ 14
     ∷ 0 ∷ 14 ∷ 0 ∷ 14

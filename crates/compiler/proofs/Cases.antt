@@ -127,7 +127,8 @@ cases =
     ∷ case (panel 8) (fill ++ write ++ write) (0x201 ∷ 3 ∷ fourWords) 1000 2
     ∷ case (panel 8) (fill ++ write) (0 ∷ fourWords) 1000 2
     ∷ case (panel 8) fill [] 119 2
-    -- two rows at once: 9 and 10, 10 and 11, 11 and 12, 12 and 16, 16 and 17; commands refused by 12 and 12, 14 and 12, 15 and 12
+    -- two rows at once: 9 and 10, 10 and 11, 11 and 12, 12 and 16, 16 and 17 (15 and 16 never fail together); commands refused by 12 and
+    -- 12, 14 and 12, 15 and 12
     ∷ case badWindow (0 ∷ fill) [] 120 2
     ∷ case (panel 4) (0 ∷ fill) [] 120 2
     ∷ case (panel 4) strange [] 120 2

@@ -159,7 +159,7 @@ pub first-back : (rows : List Row) (n i : ℕ) → FirstFails rows n i → (firs
 first-back rows n i f =
     let d = failing (f .at) (f .after) (f .fails) in (
       ap firstOf (f .cut) ∙ second-part (f .before) (f .at ∷ f .after) (f .earlier) ∙ d .0 ∙ f .numbered,
-      ap firstPlace (f .cut) ∙ second-place (f .before) (f .at ∷ f .after) (f .earlier) ∙ d .1 ∙ f .placed
+      ap firstPlace (f .cut) ∙ second-place (f .before) (f .at ∷ f .after) (f .earlier) ∙ d .1 ∙ f .placed,
     )
 
 -- both ways

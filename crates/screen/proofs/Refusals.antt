@@ -32,47 +32,47 @@ full = withWindow 0 8 1 16 2
 
 -- of two rows that fail at once the lower number is given: 1 and 2, 2 and 3, .., 8 and 9
 pub first-of-two : map number (
-      set (set bare 3 1) 0 3
-      ∷ set (set bare 0 3) 1 4
-      ∷ plain 4 4 0 240 0
-      ∷ plain 4 0 4 240 0
-      ∷ plain 4 1 320 241 2
-      ∷ screen 4 0 320 240 2 0 8 1 0 2
-      ∷ screen 4 0 320 240 0 0 316 1 8 2
-      ∷ screen 4 0 320 240 0 2 4 1 16 2
-      ∷ [])
+    set (set bare 3 1) 0 3
+    ∷ set (set bare 0 3) 1 4
+    ∷ plain 4 4 0 240 0
+    ∷ plain 4 0 4 240 0
+    ∷ plain 4 1 320 241 2
+    ∷ screen 4 0 320 240 2 0 8 1 0 2
+    ∷ screen 4 0 320 240 0 0 316 1 8 2
+    ∷ screen 4 0 320 240 0 2 4 1 16 2
+    ∷ [])
     ≡ 1 ∷ 2 ∷ 3 ∷ 4 ∷ 5 ∷ 6 ∷ 7 ∷ 8 ∷ []
 unfolding allZero firstOf isDepth imageEnd fieldsOf wellFormed panelOk viewWidth viewHeight wholeDwords mainImage windowImage imageOk windowOk windowWhole fieldRows screenRows
 first-of-two = refl
 
 -- 1: 31 and 33 bytes, flag 2, and each byte that must be zero at its edge: 3, 24, 31, and with flag 0 alone 12 and 23
 pub form : map number (
-      bare
-      ∷ full
-      ∷ (4 ∷ replicate 30 0)
-      ∷ (bare ++ (0 ∷ []))
-      ∷ set full 2 2
-      ∷ set bare 3 1
-      ∷ set bare 24 1
-      ∷ set bare 31 1
-      ∷ set full 24 1
-      ∷ set full 31 1
-      ∷ set bare 12 1
-      ∷ set bare 23 1
-      ∷ set full 12 4
-      ∷ set full 23 1
-      ∷ [])
+    bare
+    ∷ full
+    ∷ (4 ∷ replicate 30 0)
+    ∷ (bare ++ (0 ∷ []))
+    ∷ set full 2 2
+    ∷ set bare 3 1
+    ∷ set bare 24 1
+    ∷ set bare 31 1
+    ∷ set full 24 1
+    ∷ set full 31 1
+    ∷ set bare 12 1
+    ∷ set bare 23 1
+    ∷ set full 12 4
+    ∷ set full 23 1
+    ∷ [])
     ≡ 0 ∷ 0 ∷ 1 ∷ 1 ∷ 1 ∷ 1 ∷ 1 ∷ 1 ∷ 1 ∷ 1 ∷ 1 ∷ 1 ∷ 0 ∷ 7 ∷ []
 unfolding allZero firstOf isDepth imageEnd fieldsOf wellFormed panelOk viewWidth viewHeight wholeDwords mainImage windowImage imageOk windowOk windowWhole fieldRows screenRows
 form = refl
 
 -- 2: depths; 3: rotations; 4: widths and heights; 5: a view turned by 90 degrees is as wide as the panel is high
 pub panels : map number (
-      plain 1 0 320 240 0 ∷ plain 2 0 320 240 0 ∷ plain 8 0 320 240 0 ∷ plain 16 0 320 240 0 ∷ plain 0 0 320 240 0 ∷ plain 32 0 320 240 0
-      ∷ plain 4 3 320 240 0 ∷ plain 4 4 320 240 0
-      ∷ plain 4 0 8 1 0 ∷ plain 2 0 1024 1024 0 ∷ plain 4 0 0 240 0 ∷ plain 4 0 1032 240 0 ∷ plain 4 0 12 240 0 ∷ plain 4 0 320 0 0 ∷ plain 4 0 8 1025 0
-      ∷ plain 1 0 40 8 0 ∷ plain 4 0 320 241 0 ∷ plain 4 1 320 241 0 ∷ plain 4 2 320 241 0 ∷ plain 4 3 320 241 0
-      ∷ [])
+    plain 1 0 320 240 0 ∷ plain 2 0 320 240 0 ∷ plain 8 0 320 240 0 ∷ plain 16 0 320 240 0 ∷ plain 0 0 320 240 0 ∷ plain 32 0 320 240 0
+    ∷ plain 4 3 320 240 0 ∷ plain 4 4 320 240 0
+    ∷ plain 4 0 8 1 0 ∷ plain 2 0 1024 1024 0 ∷ plain 4 0 0 240 0 ∷ plain 4 0 1032 240 0 ∷ plain 4 0 12 240 0 ∷ plain 4 0 320 0 0 ∷ plain 4 0 8 1025 0
+    ∷ plain 1 0 40 8 0 ∷ plain 4 0 320 241 0 ∷ plain 4 1 320 241 0 ∷ plain 4 2 320 241 0 ∷ plain 4 3 320 241 0
+    ∷ [])
     ≡ 0 ∷ 0 ∷ 0 ∷ 0 ∷ 2 ∷ 2
     ∷ 0 ∷ 3
     ∷ 0 ∷ 0 ∷ 4 ∷ 4 ∷ 4 ∷ 4 ∷ 4
@@ -84,12 +84,12 @@ panels = refl
 -- 6: the base, and an image that ends at the last byte or a line past it; 7: sizes and sides of the window; 8: its x and width; 9: its base
 -- and its end. At depth 4 the window of 16 by 2 has 16 bytes.
 pub windows : map number (
-      plain 4 0 320 240 2 ∷ plain 4 0 320 240 4 ∷ plain 8 0 1024 256 0 ∷ plain 8 0 1024 256 4
-      ∷ screen 4 0 320 240 0 0 8 1 0 2 ∷ screen 4 0 320 240 0 0 8 1 16 0 ∷ screen 4 0 320 240 0 0 304 238 16 2 ∷ screen 4 0 320 240 0 0 312 238 16 2 ∷ screen 4 0 320 240 0 0 304 239 16 2
-      ∷ screen 4 1 320 240 0 0 224 318 16 2 ∷ screen 4 1 320 240 0 0 232 318 16 2
-      ∷ screen 4 0 320 240 0 0 4 1 16 2 ∷ screen 4 0 320 240 0 0 8 1 20 2
-      ∷ screen 4 0 320 240 0 2 8 1 16 2 ∷ screen 4 0 320 240 0 262128 8 1 16 2 ∷ screen 4 0 320 240 0 262132 8 1 16 2
-      ∷ [])
+    plain 4 0 320 240 2 ∷ plain 4 0 320 240 4 ∷ plain 8 0 1024 256 0 ∷ plain 8 0 1024 256 4
+    ∷ screen 4 0 320 240 0 0 8 1 0 2 ∷ screen 4 0 320 240 0 0 8 1 16 0 ∷ screen 4 0 320 240 0 0 304 238 16 2 ∷ screen 4 0 320 240 0 0 312 238 16 2 ∷ screen 4 0 320 240 0 0 304 239 16 2
+    ∷ screen 4 1 320 240 0 0 224 318 16 2 ∷ screen 4 1 320 240 0 0 232 318 16 2
+    ∷ screen 4 0 320 240 0 0 4 1 16 2 ∷ screen 4 0 320 240 0 0 8 1 20 2
+    ∷ screen 4 0 320 240 0 2 8 1 16 2 ∷ screen 4 0 320 240 0 262128 8 1 16 2 ∷ screen 4 0 320 240 0 262132 8 1 16 2
+    ∷ [])
     ≡ 6 ∷ 0 ∷ 0 ∷ 6
     ∷ 7 ∷ 7 ∷ 0 ∷ 7 ∷ 7
     ∷ 0 ∷ 7

@@ -108,7 +108,7 @@ drawings = refl
 
 -- the numbers of an answer, and the answer with these numbers
 pub answers : (drawingOf (Refused 13 1)
-      ≡ record { number = 13; place = 1; length = 0; values = record { main = record { start = 0; offset = 0 }; window = record { start = 0; offset = 0 }; x = 0; y = 0 } })
+    ≡ record { number = 13; place = 1; length = 0; values = record { main = record { start = 0; offset = 0 }; window = record { start = 0; offset = 0 }; x = 0; y = 0 } })
     × (answerOf (drawingOf (Refused 13 1)) ≡ Refused 13 1)
     × (answerOf (drawing 24 (screen 8) [] [] 0 []) ≡ Refused 18 0)
     × (answerOf (drawingOf (Accepted 120 (valuesOf (fieldsOf (screen 8))))) ≡ Accepted 120 (valuesOf (fieldsOf (screen 8))))
