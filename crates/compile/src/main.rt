@@ -1,32 +1,26 @@
 // compile SCREEN LIST [WORDS]
 // Compiles the screen record, the command list and the host words of the named files, and prints the stream, a line for each
-// record: its number and its value. A refusal is the one line `refused NUMBER PLACE` and, for 12 to 15, a line with the bytes
-// of the refused command. Where a file cannot be read, or its words not be taken, standard output stays empty.
+// record: its number and its value. A refusal is the one line `refused NUMBER PLACE: REASON` and, for 12 to 15, a line with the
+// bytes of the refused command. Where a file cannot be read, or its words not be taken, standard output stays empty.
 //
 // WORDS: two bytes a word, low byte first, at most 262,144 words; none where it is left out or `-`. The stream: at most
 // 2,097,152 bytes, else 17. The buffers are on the stack.
-ghost use mathlib.Core.Path.{_≡_};
-ghost use Prim.Native.Nat.{min};
+ghost use Rattle.files.specs.System.{YesOrNo};
 
-// The smaller of two numbers.
-fn least(a: usize, b: usize) -> usize
-    ensures { λ r. ⌜ r ≡ min a b ⌝ }
+// Prints the lines of a part of a stream, at most 1,024 of them; answers whether it could.
+fn print_lines(part: &[u8]) -> bool
+    ensures { λ r. ⌜ YesOrNo r ⌝ }
 {
-    if a < b { a } else { b }
-}
-
-// Prints the lines of a part of a stream, at most 1,024 of them.
-fn print_lines(part: &[u8]) -> bool {
-    let mut lines = [0u8; 18432];
-    let n = text::put_lines(part, &mut lines);
-    files::print(&lines[..n])
+    let mut buffer = [0u8; 18432];
+    let n = lines::put_lines(part, &mut buffer);
+    files::print(&buffer[..n])
 }
 
 // Prints the lines of a stream.
 fn print_stream(stream: &[u8]) {
     let mut at = 0;
     while at < stream.len() {
-        let room = least(8192, stream.len() - at);
+        let room = text::least(8192, stream.len() - at);
         let end = at + room;
         if !print_lines(&stream[at..end]) {
             return;
@@ -41,7 +35,7 @@ fn print_part(part: &[u8]) {
         return;
     }
     let mut bytes = [b' '; 96];
-    text::put_bytes(part, &mut bytes);
+    lines::put_bytes(part, &mut bytes);
     bytes[95] = b'\n';
     files::print(&bytes);
 }

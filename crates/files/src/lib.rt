@@ -1,8 +1,8 @@
-// What the programs share: the files that their arguments name, their buffers, and the line of a refusal. All that C reads or
-// writes is outside what a contract can say; these functions are proved safe, and a count is within its buffer.
+// What the programs share: the files that their arguments name, their buffers, and what they write. The contents of a file,
+// and whether it can be read or written, are the system's: a contract names them, and says what holds of them.
 ghost use mathlib.Core.Path.{_≡_};
-ghost use lib.ListN.{length};
-ghost use Rattle.io.specs.Counts.{Counts};
+ghost use lib.ListN.{length, replicate};
+ghost use Rattle.files.specs.System.{YesOrNo, LoadedBytes, LoadedWords};
 use libc::STDERR_FILENO;
 use libc::STDOUT_FILENO;
 
@@ -17,6 +17,7 @@ pub struct Loaded {
 
 // Bytes of a word file, one more than the most, so that a longer file is seen.
 fn word_bytes() -> [u8; 524289]
+    ensures { λ r. ⌜ r ≡ replicate 524289 0 ⌝ }
     ensures { λ r. ⌜ 524289 ≡ length r ⌝ }
 {
     [0; 524289]
@@ -24,6 +25,7 @@ fn word_bytes() -> [u8; 524289]
 
 // Room for 262,144 host words.
 pub fn words() -> [u16; 262144]
+    ensures { λ r. ⌜ r ≡ replicate 262144 0 ⌝ }
     ensures { λ r. ⌜ 262144 ≡ length r ⌝ }
 {
     [0; 262144]
@@ -31,6 +33,7 @@ pub fn words() -> [u16; 262144]
 
 // Room for a stream of 2 MiB: 262,144 records.
 pub fn stream() -> [u8; 2097152]
+    ensures { λ r. ⌜ r ≡ replicate 2097152 0 ⌝ }
     ensures { λ r. ⌜ 2097152 ≡ length r ⌝ }
 {
     [0; 2097152]
@@ -44,8 +47,10 @@ pub fn say(what: &[u8], how: &[u8]) {
     io::write_all(STDERR_FILENO, b"\n");
 }
 
-// Writes bytes to standard output, or says on standard error why they could not be.
-pub fn print(text: &[u8]) -> bool {
+// Writes bytes to standard output, or says on standard error why it could not; answers whether it could.
+pub fn print(text: &[u8]) -> bool
+    ensures { λ r. ⌜ YesOrNo r ⌝ }
+{
     if io::write_all(STDOUT_FILENO, text) {
         return true;
     }
@@ -53,24 +58,24 @@ pub fn print(text: &[u8]) -> bool {
     false
 }
 
-// Writes the line of a refusal.
+// Writes the line of a refusal, at most 128 bytes.
 pub fn print_refusal(number: u64, place: u64) {
-    io::write_all(STDOUT_FILENO, b"refused ");
-    io::print_decimal(STDOUT_FILENO, number);
-    io::write_all(STDOUT_FILENO, b" ");
-    io::print_decimal(STDOUT_FILENO, place);
-    io::write_all(STDOUT_FILENO, b"\n");
+    let mut line = [0u8; 128];
+    let n = text::put_refusal(number, place, &mut line);
+    print(&line[..n]);
 }
 
 // Whether a read finds the end of the input, and no error.
-fn at_end(fd: i32) -> bool {
+fn at_end(fd: i32) -> bool
+    ensures { λ r. ⌜ YesOrNo r ⌝ }
+{
     let mut one = [0u8; 1];
     libc::read(fd, &mut one) == 0
 }
 
 // Reads a file into the buffer, as much of it as there is room for; or says why it cannot be read.
 fn load_path(path: &[u8], buffer: &mut [u8]) -> Loaded
-    ensures { λ r. ⌜ Counts (r .n) (now (buffer .exit)) ⌝ }
+    ensures { λ r. ⌜ LoadedBytes (now (buffer .entry)) (now (buffer .exit)) r ⌝ }
 {
     let fd = os::open_read(path);
     if fd < 0 {
@@ -81,14 +86,16 @@ fn load_path(path: &[u8], buffer: &mut [u8]) -> Loaded
     let ok = n == buffer.len() || at_end(fd);
     if !ok {
         os::fail(path);
+        libc::close(fd);
+        return Loaded { ok: false, n: 0 };
     }
     libc::close(fd);
-    Loaded { ok, n }
+    Loaded { ok: true, n }
 }
 
 // Reads the file that argument i names.
 pub fn load(i: usize, buffer: &mut [u8]) -> Loaded
-    ensures { λ r. ⌜ Counts (r .n) (now (buffer .exit)) ⌝ }
+    ensures { λ r. ⌜ LoadedBytes (now (buffer .entry)) (now (buffer .exit)) r ⌝ }
 {
     let mut path = io::buffer();
     let n = os::arg(i, &mut path);
@@ -100,7 +107,9 @@ pub fn load(i: usize, buffer: &mut [u8]) -> Loaded
 }
 
 // Whether argument i is left out: there is none, or it is a single `-`.
-pub fn is_left_out(i: usize) -> bool {
+pub fn is_left_out(i: usize) -> bool
+    ensures { λ r. ⌜ YesOrNo r ⌝ }
+{
     if os::arg_count() <= i {
         return true;
     }
@@ -110,8 +119,8 @@ pub fn is_left_out(i: usize) -> bool {
 }
 
 // Reads the host words of the file that argument i names, two bytes each; none where it is left out.
-pub fn load_words(i: usize, words: &mut [u16]) -> Loaded
-    ensures { λ r. ⌜ Counts (r .n) (now (words .exit)) ⌝ }
+pub fn load_words(i: usize, words: &mut [u16; 262144]) -> Loaded
+    ensures { λ r. ⌜ LoadedWords (now (words .entry)) (now (words .exit)) r ⌝ }
 {
     if is_left_out(i) {
         return Loaded { ok: true, n: 0 };
@@ -130,6 +139,6 @@ pub fn load_words(i: usize, words: &mut [u16]) -> Loaded
         say(b"host words", b"an odd number of bytes");
         return Loaded { ok: false, n: 0 };
     }
-    let n = text::words_of(&bytes[..n], words);
-    Loaded { ok: true, n }
+    let k = lines::words_of(&bytes[..n], words);
+    Loaded { ok: true, n: k }
 }

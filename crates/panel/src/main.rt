@@ -1,16 +1,18 @@
 // panel SCREEN LIST [WORDS [MEMORY]]
 // Draws the command list and the host words of the named files over a display memory, and writes what the panel then shows
 // to standard output: a grey picture (PGM, P5) at depths 1 to 8, a colour picture (PPM, P6) at depth 16. A refusal is the one
-// line `refused NUMBER PLACE`. Where a file cannot be read, or its words not be taken, standard output stays empty.
+// line `refused NUMBER PLACE: REASON`. Where a file cannot be read, or its words not be taken, standard output stays empty.
 //
 // WORDS: two bytes a word, low byte first, at most 262,144 words; none where it is left out or `-`. MEMORY: 262,144 bytes
 // before the drawing; zeros where it is left out or `-`. The stream: at most 2,097,152 bytes, else 17. The buffers are on the
 // stack.
 ghost use mathlib.Core.Path.{_≡_};
-ghost use lib.ListN.{length};
-ghost use Rattle.io.specs.Counts.{Counts};
+ghost use lib.ListN.{length, replicate};
+ghost use Rattle.screen.specs.Screen.{memorySize};
+ghost use Rattle.unit.specs.Draw.{memoryDrawn};
+ghost use Rattle.files.specs.System.{YesOrNo};
+ghost use Rattle.panel.specs.Memory.{LoadedMemory};
 use files::Loaded;
-use libc::STDOUT_FILENO;
 use reader::Display;
 use screen::ScreenAnswer;
 use screen::ScreenValues;
@@ -18,6 +20,7 @@ use unit::Drawn;
 
 // A display memory of zeros, and one byte more, so that a longer file is seen.
 fn zeros() -> [u8; 262145]
+    ensures { λ r. ⌜ r ≡ replicate 262145 0 ⌝ }
     ensures { λ r. ⌜ 262145 ≡ length r ⌝ }
 {
     [0; 262145]
@@ -25,7 +28,7 @@ fn zeros() -> [u8; 262145]
 
 // The display memory of the file that argument i names; 262,144 bytes as they are where it is left out.
 fn load_memory(i: usize, memory: &mut [u8]) -> Loaded
-    ensures { λ r. ⌜ Counts (r .n) (now (memory .exit)) ⌝ }
+    ensures { λ r. ⌜ LoadedMemory (now (memory .entry)) (now (memory .exit)) r ⌝ }
 {
     if files::is_left_out(i) {
         let n = io::count(262144, memory);
@@ -34,23 +37,19 @@ fn load_memory(i: usize, memory: &mut [u8]) -> Loaded
     files::load(i, memory)
 }
 
-// The picture's first lines: its kind, its size and its highest value.
-fn print_head(d: Display) -> bool {
-    if d.depth == 16 {
-        io::write_all(STDOUT_FILENO, b"P6\n");
-    } else {
-        io::write_all(STDOUT_FILENO, b"P5\n");
-    }
-    io::print_decimal(STDOUT_FILENO, d.width as u64);
-    io::write_all(STDOUT_FILENO, b" ");
-    io::print_decimal(STDOUT_FILENO, d.height as u64);
-    io::write_all(STDOUT_FILENO, b"\n");
-    io::print_decimal(STDOUT_FILENO, picture::highest_value(d.depth) as u64);
-    files::print(b"\n")
+// Writes the picture's head; answers whether it could.
+fn print_head(d: Display) -> bool
+    ensures { λ r. ⌜ YesOrNo r ⌝ }
+{
+    let mut line = [0u8; 64];
+    let n = picture::put_head(d, &mut line);
+    files::print(&line[..n])
 }
 
-// Line q of the picture: at most 1,024 points of three bytes.
-fn print_line(d: Display, values: ScreenValues, q: u32, memory: &[u8]) -> bool {
+// Writes line q of the picture, at most 1,024 points of three bytes; answers whether it could.
+fn print_line(d: Display, values: ScreenValues, q: u32, memory: &[u8]) -> bool
+    ensures { λ r. ⌜ YesOrNo r ⌝ }
+{
     let mut line = [0u8; 3072];
     let n = picture::put_points(d, values, q, memory, &mut line);
     files::print(&line[..n])
@@ -90,7 +89,10 @@ fn show(screen: &[u8], values: ScreenValues, memory: &[u8]) {
     }
 }
 
-fn run(screen: &[u8], list: &[u8], words: &[u16], memory: &mut [u8]) {
+// Draws the list over the memory, and writes the picture or the refusal.
+fn run(screen: &[u8], list: &[u8], words: &[u16], memory: &mut [u8])
+    ensures { λ _. ⌜ now (memory .exit) ≡ memoryDrawn memorySize (now (screen .entry)) (now (list .entry)) (now (words .entry)) 2097152 (now (memory .entry)) ⌝ }
+{
     let mut stream = files::stream();
     let drawn = unit_code::draw(screen, list, words, &mut stream, memory);
     match drawn {
@@ -101,6 +103,23 @@ fn run(screen: &[u8], list: &[u8], words: &[u16], memory: &mut [u8]) {
             show(screen, values, memory);
         }
     }
+}
+
+// Reads the host words and the memory of the arguments 3 and 4, and runs.
+fn run_with(screen: &[u8], list: &[u8]) {
+    let mut words = files::words();
+    let w = files::load_words(3, &mut words);
+    if !w.ok {
+        return;
+    }
+    let mut memory = zeros();
+    let m = load_memory(4, &mut memory);
+    if !m.ok {
+        return;
+    }
+    let nw = w.n;
+    let nm = m.n;
+    run(screen, list, &words[..nw], &mut memory[..nm]);
 }
 
 fn main() {
@@ -119,19 +138,7 @@ fn main() {
     if !l.ok {
         return;
     }
-    let mut words = files::words();
-    let w = files::load_words(3, &mut words);
-    if !w.ok {
-        return;
-    }
-    let mut memory = zeros();
-    let m = load_memory(4, &mut memory);
-    if !m.ok {
-        return;
-    }
     let ns = s.n;
     let nl = l.n;
-    let nw = w.n;
-    let nm = m.n;
-    run(&screen[..ns], &list[..nl], &words[..nw], &mut memory[..nm]);
+    run_with(&screen[..ns], &list[..nl]);
 }

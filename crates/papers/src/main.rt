@@ -1,48 +1,80 @@
 // Runs a script of worked examples from standard input (`stdin`, which says what its steps are): each is compiled and played,
-// the register values and the panel points are written and held against the paper's. A line for each, and a count.
-mod script;
-mod show;
-mod steps;
-mod store;
-mod text;
-
+// and the register values and the panel points are held against the paper's. Writes each example's name, the lines that
+// differ, and the verdict; and at the end whether all was as the papers have it.
 use chip::Played;
 use compiler::Compiled;
 use libc::STDIN_FILENO;
+use libc::STDOUT_FILENO;
+use verdict::Tally;
 
 fn main() {
     let mut script = io::large_buffer();
     let n = io::read_full(STDIN_FILENO, &mut script);
-    let mut desk = [0u8; 262272];
-    let mut words = [0u16; 1001];
-    let mut stream = [0u8; 16384];
-    let mut memory = [0u8; 262144];
-    run(
-        &script[..n],
-        &mut desk,
-        &mut words,
-        &mut stream,
-        &mut memory,
-    );
+    run(&script[..n]);
 }
 
-// Takes the steps, line by line. Each of the four functions does its part of a step, if it has one.
-fn run(script: &[u8], desk: &mut [u8], words: &mut [u16], stream: &mut [u8], memory: &mut [u8]) {
-    let mut tally = show::no_tally();
+// Writes a text.
+fn write(text: &[u8]) {
+    io::write_all(STDOUT_FILENO, text);
+}
+
+// Writes one of two texts.
+fn write_either(ok: bool, yes: &[u8], no: &[u8]) {
+    if ok {
+        write(yes);
+    } else {
+        write(no);
+    }
+}
+
+// Writes an example's name, a line that is not as the papers have it, and at an example's end whether all of it was.
+fn write_line(k: u32, line: &[u8], ok: bool, example: bool) {
+    if k == steps::EXAMPLE && 8 <= line.len() {
+        write(&line[8..]);
+    }
+    if !ok {
+        write(b"\n  differs: ");
+        write(line);
+    }
+    if k == verdict::DONE {
+        write_either(example, b": ok\n", b"\n: differs\n");
+    }
+}
+
+// Writes whether all was as the papers have it.
+fn write_end(all: bool) {
+    write_either(all, b"all ok\n", b"not all ok\n");
+}
+
+// Takes the steps, line by line. Each function does its part of a step, if it has one.
+fn run(script: &[u8]) {
+    let mut desk = [0u8; 72];
+    let mut words = [0u16; 1001];
+    let mut stream = [0u8; 16384];
+    let mut memory = steps::zeros();
+    let mut kept = steps::zeros();
     let mut compiled = Compiled::Refused(0, 0);
     let mut played = Played::Refused(0, 0);
+    let mut tally = Tally {
+        example: true,
+        all: true,
+    };
     let mut at = 0;
     while at < script.len() {
         let end = script::line_end(script, at);
         let line = &script[at..end];
-        let next = end + 1;
-        let k = script::step_of(line);
-        steps::set(k, line, desk, words, stream, memory);
-        compiled = steps::compile(k, compiled, desk, words, stream);
-        played = steps::play(k, played, compiled, stream, memory);
-        let fine = show::show(k, line, compiled, played, desk, stream, memory);
-        tally = show::judge(k, tally, fine);
-        at = next;
+        at = end + 1;
+        let k = script::number_at(line, 0);
+        steps::set_desk(k, line, &mut desk);
+        steps::set_words(k, line, &mut words);
+        steps::patch(k, line, &mut stream);
+        steps::keep(k, &memory, &mut kept);
+        steps::set_memory(k, line, &mut memory);
+        compiled = steps::compile(k, compiled, &desk, &words, &mut stream);
+        played = steps::play(k, played, compiled, &stream, &mut memory);
+        let ok = verdict::check_line(k, line, compiled, played, &desk, &stream, &memory, &kept);
+        tally = verdict::judge(k, tally, ok);
+        write_line(k, line, ok, tally.example);
     }
-    show::count(tally);
+    write_end(tally.all);
 }

@@ -16,8 +16,9 @@ use Rattle.screen.specs.Screen.{memorySize}
 use Rattle.screen.specs.declared.ScreenValues.{ScreenValues}
 use Rattle.reader.specs.Read.{Reading, reading}
 use Rattle.reader.specs.declared.Display.{Display}
-use Rattle.text.specs.Lines.{joined}
-use Rattle.text.proofs.Joined.{Filling, fill-turn, fill-end, counts}
+use Rattle.lines.specs.Lines.{joined}
+use Rattle.lines.proofs.Joined.{Filling, fill-turn, fill-end}
+use Rattle.text.proofs.Stored.{counts}
 use Rattle.picture.specs.Picture.{highest, pixelSize, fromFive, fromSix, pixelBytes, pointBytes}
 
 chosen : (b : Bool) (x y : List ℕ) (m n : ℕ) → length x ≡ m → length y ≡ n → length (cond b x y) ≡ cond b m n

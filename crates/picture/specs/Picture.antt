@@ -1,16 +1,27 @@
 -- The panel as a picture, in the portable formats: one byte for a point at depths 1 to 8, red, green and blue at depth 16.
 use Prim.Native.Nat.{ℕ, _+_, _-_, _*_, _/_, _%_, _^_, min}
-use mathlib.Core.List.{List, [], _∷_}
+use mathlib.Core.List.{List, [], _∷_, _++_}
 use mathlib.Core.Bool.{cond}
 use lib.Dec.{eqb}
 use Rattle.screen.specs.Screen.{memorySize}
 use Rattle.screen.specs.declared.ScreenValues.{ScreenValues}
 use Rattle.reader.specs.Read.{reading}
 use Rattle.reader.specs.declared.Display.{Display}
+use Rattle.text.specs.Text.{letters, decimal}
 
 -- the highest value in the picture
 abbrev pub highest : ℕ → ℕ
 highest depth = 2 ^ min depth 8 - 1
+
+-- the picture's kind: grey, or at depth 16 in colours
+unfoldable pub pictureKind : ℕ → List ℕ
+pictureKind depth = cond (eqb depth 16) (letters "P6\n") (letters "P5\n")
+
+-- the first lines of the picture: its kind, its width and height, its highest value
+unfoldable pub pictureHead : Display → List ℕ
+pictureHead d =
+    pictureKind (d .depth) ++ decimal (d .width) ++ letters " " ++ decimal (d .height) ++ letters "\n"
+    ++ decimal (highest (d .depth)) ++ letters "\n"
 
 -- bytes of a pixel
 unfoldable pub pixelSize : ℕ → ℕ

@@ -1,24 +1,49 @@
-// The panel as a picture: a line of it, and the highest value in it.
+// The panel as a picture: its head, and a line of its points.
 ghost use mathlib.Core.Path.{_≡_};
-ghost use Prim.Native.Nat.{_+_, _*_, _%_, _≤_, min};
+ghost use Prim.Native.Nat.{_+_, _*_, _%_};
 ghost use lib.ListN.{length};
 ghost use lib.Seq.{sets};
 ghost use Rattle.io.specs.Counts.{Counts};
 ghost use Rattle.reader.specs.Read.{readingOf};
-ghost use Rattle.text.specs.Lines.{joined};
-ghost use Rattle.picture.specs.Picture.{highest, pixelSize, fromFive, fromSix, pixelBytes, pointBytes, pixelsIn};
+ghost use Rattle.lines.specs.Lines.{joined};
+ghost use Rattle.text.specs.Text.{Stored};
+ghost use Rattle.picture.specs.Picture.{highest, pictureKind, pictureHead, pixelSize, fromFive, fromSix, pixelBytes, pointBytes, pixelsIn};
 use reader::Display;
 use reader::PointAnswer;
 use screen::ScreenValues;
 
 // The highest value of a picture at a depth.
-pub fn highest_value(depth: u32) -> u32
+fn highest_value(depth: u32) -> u32
     ensures { λ r. ⌜ r ≡ highest depth ⌝ }
 {
     if depth < 8 {
         return (1u32 << depth) - 1;
     }
     255
+}
+
+// The first line of a picture.
+fn put_kind(depth: u32, line: &mut [u8]) -> usize
+    ensures { λ r. ⌜ Stored (now (line .entry)) 0 (pictureKind depth) (now (line .exit)) r ⌝ }
+{
+    if depth == 16 {
+        return text::put(line, 0, b"P6\n");
+    }
+    text::put(line, 0, b"P5\n")
+}
+
+// The picture's head, cut where there is no room; answers its bytes.
+pub fn put_head(d: Display, line: &mut [u8]) -> usize
+    ensures { λ r. ⌜ Stored (now (line .entry)) 0 (pictureHead d) (now (line .exit)) r ⌝ }
+{
+    let depth = d.depth;
+    let at = put_kind(depth, line);
+    let at = text::put_decimal(line, at, d.width as u64);
+    let at = text::put(line, at, b" ");
+    let at = text::put_decimal(line, at, d.height as u64);
+    let at = text::put(line, at, b"\n");
+    let at = text::put_decimal(line, at, highest_value(depth) as u64);
+    text::put(line, at, b"\n")
 }
 
 // Bytes of a pixel in a picture.
@@ -56,7 +81,6 @@ fn from_six(v: u16) -> u8
 
 // Stores a colour's bytes at `at`.
 fn put_colour(line: &mut [u8], at: usize, depth: u32, c: u16)
-    requires { ⌜ at + pixelSize depth ≤ length (now line) ⌝ }
     ensures { λ _. ⌜ now (line .exit) ≡ sets (now (line .entry)) at (pixelBytes depth c) ⌝ }
 {
     if depth == 16 {
@@ -68,13 +92,6 @@ fn put_colour(line: &mut [u8], at: usize, depth: u32, c: u16)
     }
 }
 
-// The smaller of two numbers.
-fn least(a: usize, b: usize) -> usize
-    ensures { λ r. ⌜ r ≡ min a b ⌝ }
-{
-    if a < b { a } else { b }
-}
-
 // Line q of the panel's picture, as many points as there is room for; answers its bytes.
 pub fn put_points(d: Display, values: ScreenValues, q: u32, memory: &[u8], line: &mut [u8]) -> usize
     ensures { λ r. ⌜ r ≡ pixelSize (d .depth) * pixelsIn d (length (now (line .entry))) ⌝ }
@@ -83,7 +100,7 @@ pub fn put_points(d: Display, values: ScreenValues, q: u32, memory: &[u8], line:
 {
     let depth = d.depth;
     let size = pixel_size(depth);
-    let n = least(d.width as usize, line.len() / size);
+    let n = text::least(d.width as usize, line.len() / size);
     let mut i = 0;
     let mut at = 0;
     while i < n {

@@ -1,1 +1,3 @@
-pub mod Joined
+pub mod Between
+pub mod Cases
+pub mod Stored

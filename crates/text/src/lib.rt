@@ -1,120 +1,68 @@
-// What the programs write and read: a stream as lines of text, bytes in hexadecimal, and host words from bytes.
+// The line of a refusal. A text that has no room in its buffer is cut.
+mod reasons;
+
 ghost use mathlib.Core.Path.{_≡_};
-ghost use Prim.Native.Nat.{_+_, _*_, _/_, _%_, _≤_, min};
-ghost use lib.ListN.{length};
-ghost use lib.Seq.{sets};
-ghost use Rattle.io.specs.Counts.{Counts};
-ghost use Rattle.io.specs.Digits.{digits, glyph};
-ghost use Rattle.text.specs.Lines.{joined, recordLine, lineOf, byteOf, wordOf};
-use record::Record;
-
-// The letter of a number's last hexadecimal digit.
-fn letter(x: u32) -> u8
-    ensures { λ r. ⌜ r ≡ glyph (x % 16) ⌝ }
-{
-    let d = x % 16;
-    if d < 10 { 48 + d as u8 } else { 87 + d as u8 }
-}
-
-// The last eight hexadecimal digits of a number.
-fn eight(n: u32) -> [u8; 8]
-    ensures { λ r. ⌜ r ≡ digits 16 8 n ⌝ }
-{
-    let a = n / 16;
-    let b = a / 16;
-    let c = b / 16;
-    let d = c / 16;
-    let e = d / 16;
-    let f = e / 16;
-    let g = f / 16;
-    [
-        letter(g),
-        letter(f),
-        letter(e),
-        letter(d),
-        letter(c),
-        letter(b),
-        letter(a),
-        letter(n),
-    ]
-}
+ghost use mathlib.Core.List.{_++_};
+ghost use Prim.Native.Nat.{min};
+ghost use Rattle.text.specs.Text.{letters, decimal, Stored};
+ghost use Rattle.text.specs.Refusal.{reason, refusalLine};
+use reasons::REASONS;
+use reasons::STARTS;
 
 // The smaller of two numbers.
-fn least(a: usize, b: usize) -> usize
+pub fn least(a: usize, b: usize) -> usize
     ensures { λ r. ⌜ r ≡ min a b ⌝ }
 {
     if a < b { a } else { b }
 }
 
-// Stores bytes at `at`.
-pub fn put(text: &mut [u8], at: usize, bytes: &[u8])
-    requires { ⌜ at + length (now bytes) ≤ length (now text) ⌝ }
-    ensures { λ _. ⌜ now (text .exit) ≡ sets (now (text .entry)) at (now (bytes .entry)) ⌝ }
+// Stores bytes at `at`; answers the place behind them.
+pub fn put(text: &mut [u8], at: usize, bytes: &[u8]) -> usize
+    ensures { λ r. ⌜ Stored (now (text .entry)) at (now (bytes .entry)) (now (text .exit)) r ⌝ }
 {
+    if text.len() < at {
+        return text.len();
+    }
+    let n = least(bytes.len(), text.len() - at);
     let mut i = 0;
-    while i < bytes.len() {
+    while i < n {
         text[at + i] = bytes[i];
         i += 1;
     }
+    at + n
 }
 
-// Stores a record's line at `at`.
-fn put_line(text: &mut [u8], at: usize, r: Record)
-    requires { ⌜ at + 18 ≤ length (now text) ⌝ }
-    ensures { λ _. ⌜ now (text .exit) ≡ sets (now (text .entry)) at (recordLine r) ⌝ }
+// Stores a number in decimal.
+pub fn put_decimal(text: &mut [u8], at: usize, n: u64) -> usize
+    ensures { λ r. ⌜ Stored (now (text .entry)) at (decimal n) (now (text .exit)) r ⌝ }
 {
-    let number = eight(r.number);
-    let value = eight(r.value);
-    put(text, at, &number);
-    put(text, at + 8, b" ");
-    put(text, at + 9, &value);
-    put(text, at + 17, b"\n");
+    let mut digits = [0u8; 20];
+    let k = io::decimal(n, &mut digits);
+    put(text, at, &digits[..k])
 }
 
-// The lines of a stream's records, as many as the text has room for; answers their bytes.
-pub fn put_lines(stream: &[u8], text: &mut [u8]) -> usize
-    ensures { λ r. ⌜ r ≡ 18 * min (length (now (stream .entry)) / 8) (length (now (text .entry)) / 18) ⌝ }
-    ensures { λ r. ⌜ Counts r (now (text .exit)) ⌝ }
-    ensures { λ r. ⌜ now (text .exit) ≡ sets (now (text .entry)) 0 (joined (lineOf (now (stream .entry))) (min (length (now (stream .entry)) / 8) (length (now (text .entry)) / 18))) ⌝ }
+// Stores the reason of a refusal, and a line end.
+fn put_reason(text: &mut [u8], at: usize, number: u64) -> usize
+    ensures { λ r. ⌜ Stored (now (text .entry)) at (reason number ++ letters "\n") (now (text .exit)) r ⌝ }
 {
-    let n = least(stream.len() / 8, text.len() / 18);
-    let mut i = 0;
-    while i < n {
-        let r = record_code::record_at(stream, i);
-        put_line(text, 18 * i, r);
-        i += 1;
+    if 25 < number {
+        return put(text, at, b"\n");
     }
-    18 * n
+    let i = number as usize;
+    let from = STARTS[i];
+    let end = STARTS[i + 1];
+    let reasons: &[u8] = &REASONS;
+    put(text, at, &reasons[from..end])
 }
 
-// Bytes in hexadecimal, a space behind each, as many as the text has room for; answers the text's bytes.
-pub fn put_bytes(bytes: &[u8], text: &mut [u8]) -> usize
-    ensures { λ r. ⌜ r ≡ 3 * min (length (now (bytes .entry))) (length (now (text .entry)) / 3) ⌝ }
-    ensures { λ r. ⌜ Counts r (now (text .exit)) ⌝ }
-    ensures { λ r. ⌜ now (text .exit) ≡ sets (now (text .entry)) 0 (joined (byteOf (now (bytes .entry))) (min (length (now (bytes .entry))) (length (now (text .entry)) / 3))) ⌝ }
+// The line of a refusal; answers its bytes.
+pub fn put_refusal(number: u64, place: u64, text: &mut [u8]) -> usize
+    ensures { λ r. ⌜ Stored (now (text .entry)) 0 (refusalLine number place) (now (text .exit)) r ⌝ }
 {
-    let n = least(bytes.len(), text.len() / 3);
-    let mut i = 0;
-    while i < n {
-        let b = record_code::wide(bytes[i]);
-        let pair = [letter(b / 16), letter(b), b' '];
-        put(text, 3 * i, &pair);
-        i += 1;
-    }
-    3 * n
-}
-
-// The 16-bit numbers of bytes, low byte first, as many as there is room for; answers how many.
-pub fn words_of(bytes: &[u8], words: &mut [u16]) -> usize
-    ensures { λ r. ⌜ r ≡ min (length (now (bytes .entry)) / 2) (length (now (words .entry))) ⌝ }
-    ensures { λ r. ⌜ Counts r (now (words .exit)) ⌝ }
-    ensures { λ r. ⌜ now (words .exit) ≡ sets (now (words .entry)) 0 (joined (wordOf (now (bytes .entry))) (min (length (now (bytes .entry)) / 2) (length (now (words .entry))))) ⌝ }
-{
-    let n = least(bytes.len() / 2, words.len());
-    let mut i = 0;
-    while i < n {
-        words[i] = record_code::u16_at(bytes, 2 * i);
-        i += 1;
-    }
-    n
+    let at = put(text, 0, b"refused ");
+    let at = put_decimal(text, at, number);
+    let at = put(text, at, b" ");
+    let at = put_decimal(text, at, place);
+    let at = put(text, at, b": ");
+    put_reason(text, at, number)
 }

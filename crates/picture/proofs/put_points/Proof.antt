@@ -4,7 +4,7 @@ use borrow.Author.Needs.{needs}
 use mathlib.Core.Path.{_≡_, sym}
 use Prim.Native.Nat.{_*_, _-_, _≤_}
 use lib.ListN.{length}
-use Rattle.text.proofs.Joined.{Filling, fill-start}
+use Rattle.lines.proofs.Joined.{Filling, fill-start}
 use Rattle.picture.specs.Picture.{pixelSize, pointBytes}
 use Rattle.picture.proofs.Pixels.{size-range, all-room, next-room, next-place, point-turn, points-end}
 use Rattle.picture.proofs.put_points.Statement.{statement}
@@ -41,7 +41,7 @@ colour-of-requires : tie.Need-colour-of-requires Inv-loop μ-loop
 colour-of-requires c κs = search needs
 
 put-colour-requires : tie.Need-put-colour-requires Inv-loop μ-loop
-put-colour-requires c κs = omega (arith, next-room (c .before .before .before .before .before .before .before .pixel-size .result) (c .before .before .before .before .loop .i) (c .before .before .before .before .before .least .result) (length (c .before .before .before .before .before .before .before .before .before .before .args .line .now)) (c .before .before .before .before .loop .at) (c .before .before .before .loop-test .taken) (c .before .before .before .before .loop .inv .1 .0) (c .before .before .before .before .loop .inv .1 .1 .0), c .before .before .before .before .loop .inv .0, c .before .before .before .before .loop .inv .1 .1 .1 .same)
+put-colour-requires c κs = search needs
 
 add-at : tie.Need-add-at Inv-loop μ-loop
 add-at c = omega (arith, next-room (c .before .before .before .before .before .before .before .before .before .before .pixel-size .result) (c .before .before .before .before .before .before .before .loop .i) (c .before .before .before .before .before .before .before .before .least .result) (length (c .before .before .before .before .before .before .before .before .before .before .before .before .before .args .line .now)) (c .before .before .before .before .before .before .before .loop .at) (c .before .before .before .before .before .before .loop-test .taken) (c .before .before .before .before .before .before .before .loop .inv .1 .0) (c .before .before .before .before .before .before .before .loop .inv .1 .1 .0))

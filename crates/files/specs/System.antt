@@ -1,0 +1,30 @@
+-- What the system decides, and what holds of it.
+use Prim.Native.Nat.{ℕ, _*_}
+use mathlib.Core.Path.{_≡_}
+use mathlib.Core.Bool.{Bool, true, false}
+use mathlib.Core.Logic.{_⊎_}
+use mathlib.Core.List.{List}
+use lib.ListN.{length}
+use lib.Seq.{sets}
+use Rattle.io.specs.Counts.{Counts}
+use Rattle.lines.specs.Lines.{joined, wordOf}
+use Rattle.files.specs.declared.Loaded.{Loaded}
+
+-- an answer of the system: yes or no
+abbrev pub YesOrNo : Bool → Type 0
+YesOrNo answer = (answer ≡ true) ⊎ (answer ≡ false)
+
+-- a file's bytes in a buffer: as many as the count says, which is 0 where it cannot be read
+pub record LoadedBytes (old new : List ℕ) (r : Loaded) : Type 0 where
+  pub within : Counts (r .n) new
+  pub same : length new ≡ length old
+  pub failed : r .ok ≡ false → r .n ≡ 0
+
+-- a file's bytes as host words, low byte first; where the file is left out or not taken there are none, and the buffer is
+-- as it was
+pub record LoadedWords (old new : List ℕ) (r : Loaded) : Type 0 where
+  pub bytes : List ℕ
+  pub pairs : length bytes ≡ 2 * r .n
+  pub words : new ≡ sets old 0 (joined (wordOf bytes) (r .n))
+  pub within : Counts (r .n) new
+  pub failed : r .ok ≡ false → r .n ≡ 0

@@ -1,0 +1,25 @@
+-- Numbers, reasons and the line of a refusal, computed.
+use mathlib.Core.Path.{_≡_, refl}
+use mathlib.Core.List.{[], _++_}
+use Rattle.text.specs.Text.{letters, lastDigits, decimal}
+use Rattle.text.specs.Refusal.{reason, refusalLine}
+
+decimals : decimal 0 ++ letters " " ++ decimal 9 ++ letters " " ++ decimal 10 ++ letters " " ++ decimal 18446744073709551615 ≡ letters "0 9 10 18446744073709551615"
+unfolding decimal lastDigits
+decimals = refl
+
+refusal : refusalLine 14 7 ≡ letters "refused 14 7: destination or source outside the surface\n"
+unfolding refusalLine reason decimal lastDigits
+refusal = refl
+
+first-reason : reason 1 ≡ letters "screen record not 32 bytes, flag above 1, or a spare byte not zero"
+unfolding reason
+first-reason = refl
+
+last-reason : reason 25 ≡ letters "dword address outside 0 to 65535"
+unfolding reason
+last-reason = refl
+
+no-reason : reason 26 ≡ []
+unfolding reason
+no-reason = refl

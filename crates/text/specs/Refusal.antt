@@ -1,0 +1,46 @@
+-- The line of a refusal: its number, its place and its reason.
+use Prim.Native.Nat.{ℕ}
+use Prim.Native.String.{String}
+use mathlib.Core.List.{List, [], _∷_, _++_}
+use lib.ListN.{getD}
+use Rattle.text.specs.Text.{letters, decimal}
+
+-- why 0, 1 and so on are given (01, "Refusal numbers")
+abbrev pub reasons : List String
+reasons =
+    "accepted"
+    ∷ "screen record not 32 bytes, flag above 1, or a spare byte not zero"
+    ∷ "depth not 1, 2, 4, 8 or 16"
+    ∷ "rotation above 3"
+    ∷ "panel width not a multiple of 8 in 8 to 1024, or height not 1 to 1024"
+    ∷ "view width not a multiple of 32 / depth"
+    ∷ "main base not a multiple of 4, or image past byte 262144"
+    ∷ "window width or height 0, or window outside the view"
+    ∷ "window x or width not a multiple of 32 / depth"
+    ∷ "window base not a multiple of 4, or image past byte 262144"
+    ∷ "list not a multiple of 32 bytes, or over 64 commands"
+    ∷ "a command at a depth below 8"
+    ∷ "operation, surface, raster code or colour too high, or a spare byte not zero"
+    ∷ "rectangle width or height 0"
+    ∷ "destination or source outside the surface"
+    ∷ "too few host words"
+    ∷ "host words left over"
+    ∷ "stream buffer shorter than the stream"
+    ∷ "memory not 262144 bytes"
+    ∷ "stream not a multiple of 8 bytes"
+    ∷ "number not a listed register nor 10000h"
+    ∷ "value outside its field, or start of no operation"
+    ∷ "blit outside the memory"
+    ∷ "data word when none is due, or none when one is due"
+    ∷ "panel point outside the panel"
+    ∷ "dword address outside 0 to 65535"
+    ∷ []
+
+-- the reason of a number; none for one that 01 does not have
+unfoldable pub reason : ℕ → List ℕ
+reason n = letters (getD reasons n "")
+
+-- a refusal's line: number, place and reason
+unfoldable pub refusalLine : ℕ → ℕ → List ℕ
+refusalLine n place =
+    letters "refused " ++ decimal n ++ letters " " ++ decimal place ++ letters ": " ++ (reason n ++ letters "\n")
