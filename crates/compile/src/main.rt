@@ -12,7 +12,7 @@ fn print_lines(part: &[u8]) -> bool
     ensures { λ r. ⌜ YesOrNo r ⌝ }
 {
     let mut buffer = [0u8; 18432];
-    let n = lines::put_lines(part, &mut buffer);
+    let n = text_lines::put_lines(part, &mut buffer);
     files::print(&buffer[..n])
 }
 
@@ -20,7 +20,7 @@ fn print_lines(part: &[u8]) -> bool
 fn print_stream(stream: &[u8]) {
     let mut at = 0;
     while at < stream.len() {
-        let room = text::least(8192, stream.len() - at);
+        let room = text_code::least(8192, stream.len() - at);
         let end = at + room;
         if !print_lines(&stream[at..end]) {
             return;
@@ -35,7 +35,7 @@ fn print_part(part: &[u8]) {
         return;
     }
     let mut bytes = [b' '; 96];
-    lines::put_bytes(part, &mut bytes);
+    text_lines::put_bytes(part, &mut bytes);
     bytes[95] = b'\n';
     files::print(&bytes);
 }

@@ -8,7 +8,7 @@ use native.Mathlib.Omega.{arith}
 use lib.ListN.{length}
 use lib.Seq.{sets}
 use Rattle.io.specs.Counts.{Counts}
-use Rattle.lines.specs.Lines.{joined, wordOf}
+use Rattle.text.specs.Lines.{joined, wordOf}
 use Rattle.text.proofs.Stored.{counts}
 use Rattle.files.specs.System.{YesOrNo, LoadedBytes, LoadedWords}
 

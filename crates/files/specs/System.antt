@@ -7,7 +7,7 @@ use mathlib.Core.List.{List}
 use lib.ListN.{length}
 use lib.Seq.{sets}
 use Rattle.io.specs.Counts.{Counts}
-use Rattle.lines.specs.Lines.{joined, wordOf}
+use Rattle.text.specs.Lines.{joined, wordOf}
 use Rattle.files.specs.declared.Loaded.{Loaded}
 
 -- an answer of the system: yes or no

@@ -61,7 +61,7 @@ pub fn print(text: &[u8]) -> bool
 // Writes the line of a refusal, at most 128 bytes.
 pub fn print_refusal(number: u64, place: u64) {
     let mut line = [0u8; 128];
-    let n = text::put_refusal(number, place, &mut line);
+    let n = text_code::put_refusal(number, place, &mut line);
     print(&line[..n]);
 }
 
@@ -139,6 +139,6 @@ pub fn load_words(i: usize, words: &mut [u16; 262144]) -> Loaded
         say(b"host words", b"an odd number of bytes");
         return Loaded { ok: false, n: 0 };
     }
-    let k = lines::words_of(&bytes[..n], words);
+    let k = text_lines::words_of(&bytes[..n], words);
     Loaded { ok: true, n: k }
 }

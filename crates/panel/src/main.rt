@@ -42,7 +42,7 @@ fn print_head(d: Display) -> bool
     ensures { λ r. ⌜ YesOrNo r ⌝ }
 {
     let mut line = [0u8; 64];
-    let n = picture::put_head(d, &mut line);
+    let n = picture_code::put_head(d, &mut line);
     files::print(&line[..n])
 }
 
@@ -51,7 +51,7 @@ fn print_line(d: Display, values: ScreenValues, q: u32, memory: &[u8]) -> bool
     ensures { λ r. ⌜ YesOrNo r ⌝ }
 {
     let mut line = [0u8; 3072];
-    let n = picture::put_points(d, values, q, memory, &mut line);
+    let n = picture_code::put_points(d, values, q, memory, &mut line);
     files::print(&line[..n])
 }
 

@@ -5,7 +5,7 @@ use chip::Played;
 use compiler::Compiled;
 use libc::STDIN_FILENO;
 use libc::STDOUT_FILENO;
-use verdict::Tally;
+use script::Tally;
 
 fn main() {
     let mut script = io::large_buffer();
@@ -29,14 +29,14 @@ fn write_either(ok: bool, yes: &[u8], no: &[u8]) {
 
 // Writes an example's name, a line that is not as the papers have it, and at an example's end whether all of it was.
 fn write_line(k: u32, line: &[u8], ok: bool, example: bool) {
-    if k == steps::EXAMPLE && 8 <= line.len() {
+    if k == script_steps::EXAMPLE && 8 <= line.len() {
         write(&line[8..]);
     }
     if !ok {
         write(b"\n  differs: ");
         write(line);
     }
-    if k == verdict::DONE {
+    if k == script_verdict::DONE {
         write_either(example, b": ok\n", b"\n: differs\n");
     }
 }
@@ -51,8 +51,8 @@ fn run(script: &[u8]) {
     let mut desk = [0u8; 72];
     let mut words = [0u16; 1001];
     let mut stream = [0u8; 16384];
-    let mut memory = steps::zeros();
-    let mut kept = steps::zeros();
+    let mut memory = script_steps::zeros();
+    let mut kept = script_steps::zeros();
     let mut compiled = Compiled::Refused(0, 0);
     let mut played = Played::Refused(0, 0);
     let mut tally = Tally {
@@ -61,19 +61,28 @@ fn run(script: &[u8]) {
     };
     let mut at = 0;
     while at < script.len() {
-        let end = script::line_end(script, at);
+        let end = script_code::line_end(script, at);
         let line = &script[at..end];
         at = end + 1;
-        let k = script::number_at(line, 0);
-        steps::set_desk(k, line, &mut desk);
-        steps::set_words(k, line, &mut words);
-        steps::patch(k, line, &mut stream);
-        steps::keep(k, &memory, &mut kept);
-        steps::set_memory(k, line, &mut memory);
-        compiled = steps::compile(k, compiled, &desk, &words, &mut stream);
-        played = steps::play(k, played, compiled, &stream, &mut memory);
-        let ok = verdict::check_line(k, line, compiled, played, &desk, &stream, &memory, &kept);
-        tally = verdict::judge(k, tally, ok);
+        let k = script_code::number_at(line, 0);
+        script_steps::set_desk(k, line, &mut desk);
+        script_steps::set_words(k, line, &mut words);
+        script_steps::patch(k, line, &mut stream);
+        script_steps::keep(k, &memory, &mut kept);
+        script_steps::set_memory(k, line, &mut memory);
+        compiled = script_steps::compile(k, compiled, &desk, &words, &mut stream);
+        played = script_steps::play(k, played, compiled, &stream, &mut memory);
+        let ok = script_verdict::check_line(
+            k,
+            line,
+            compiled,
+            played,
+            &desk,
+            &stream,
+            &memory,
+            &kept,
+        );
+        tally = script_verdict::judge(k, tally, ok);
         write_line(k, line, ok, tally.example);
     }
     write_end(tally.all);

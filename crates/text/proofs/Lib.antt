@@ -1,3 +1,5 @@
 pub mod Between
 pub mod Cases
 pub mod Stored
+pub mod Joined
+pub mod LineCases

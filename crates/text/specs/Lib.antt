@@ -1,2 +1,3 @@
-pub mod Refusal
 pub mod Text
+pub mod Refusal
+pub mod Lines

@@ -1,0 +1,113 @@
+// The panel as a picture: its head, and a line of its points.
+ghost use mathlib.Core.Path.{_≡_};
+ghost use Prim.Native.Nat.{_+_, _*_, _%_};
+ghost use lib.ListN.{length};
+ghost use lib.Seq.{sets};
+ghost use Rattle.io.specs.Counts.{Counts};
+ghost use Rattle.reader.specs.Read.{readingOf};
+ghost use Rattle.text.specs.Lines.{joined};
+ghost use Rattle.text.specs.Text.{Stored};
+ghost use Rattle.picture.specs.Picture.{highest, pictureKind, pictureHead, pixelSize, fromFive, fromSix, pixelBytes, pointBytes, pixelsIn};
+use reader::Display;
+use reader::PointAnswer;
+use screen::ScreenValues;
+
+// The highest value of a picture at a depth.
+fn highest_value(depth: u32) -> u32
+    ensures { λ r. ⌜ r ≡ highest depth ⌝ }
+{
+    if depth < 8 {
+        return (1u32 << depth) - 1;
+    }
+    255
+}
+
+// The first line of a picture.
+fn put_kind(depth: u32, line: &mut [u8]) -> usize
+    ensures { λ r. ⌜ Stored (now (line .entry)) 0 (pictureKind depth) (now (line .exit)) r ⌝ }
+{
+    if depth == 16 {
+        return text_code::put(line, 0, b"P6\n");
+    }
+    text_code::put(line, 0, b"P5\n")
+}
+
+// The picture's head, cut where there is no room; answers its bytes.
+pub fn put_head(d: Display, line: &mut [u8]) -> usize
+    ensures { λ r. ⌜ Stored (now (line .entry)) 0 (pictureHead d) (now (line .exit)) r ⌝ }
+{
+    let depth = d.depth;
+    let at = put_kind(depth, line);
+    let at = text_code::put_decimal(line, at, d.width as u64);
+    let at = text_code::put(line, at, b" ");
+    let at = text_code::put_decimal(line, at, d.height as u64);
+    let at = text_code::put(line, at, b"\n");
+    let at = text_code::put_decimal(line, at, highest_value(depth) as u64);
+    text_code::put(line, at, b"\n")
+}
+
+// Bytes of a pixel in a picture.
+fn pixel_size(depth: u32) -> usize
+    ensures { λ r. ⌜ r ≡ pixelSize depth ⌝ }
+{
+    if depth == 16 { 3 } else { 1 }
+}
+
+// The colour of an answer; 0 for a refusal.
+fn colour_of(a: PointAnswer) -> u16
+    ensures { λ r. ⌜ r ≡ readingOf a .colour ⌝ }
+{
+    match a {
+        PointAnswer::Colour(c) => c,
+        PointAnswer::Refused(n) => 0,
+    }
+}
+
+// The last five bits of a number, widened to eight.
+fn from_five(v: u16) -> u8
+    ensures { λ r. ⌜ r ≡ fromFive (v % 32) ⌝ }
+{
+    let x = v % 32;
+    (8 * x + x / 4) as u8
+}
+
+// The last six bits of a number, widened to eight.
+fn from_six(v: u16) -> u8
+    ensures { λ r. ⌜ r ≡ fromSix (v % 64) ⌝ }
+{
+    let x = v % 64;
+    (4 * x + x / 16) as u8
+}
+
+// Stores a colour's bytes at `at`.
+fn put_colour(line: &mut [u8], at: usize, depth: u32, c: u16)
+    ensures { λ _. ⌜ now (line .exit) ≡ sets (now (line .entry)) at (pixelBytes depth c) ⌝ }
+{
+    if depth == 16 {
+        let three = [from_five(c / 2048), from_six(c / 32), from_five(c)];
+        text_code::put(line, at, &three);
+    } else {
+        let one = [(c % 256) as u8];
+        text_code::put(line, at, &one);
+    }
+}
+
+// Line q of the panel's picture, as many points as there is room for; answers its bytes.
+pub fn put_points(d: Display, values: ScreenValues, q: u32, memory: &[u8], line: &mut [u8]) -> usize
+    ensures { λ r. ⌜ r ≡ pixelSize (d .depth) * pixelsIn d (length (now (line .entry))) ⌝ }
+    ensures { λ r. ⌜ Counts r (now (line .exit)) ⌝ }
+    ensures { λ r. ⌜ now (line .exit) ≡ sets (now (line .entry)) 0 (joined (pointBytes d values q (now (memory .entry))) (pixelsIn d (length (now (line .entry))))) ⌝ }
+{
+    let depth = d.depth;
+    let size = pixel_size(depth);
+    let n = text_code::least(d.width as usize, line.len() / size);
+    let mut i = 0;
+    let mut at = 0;
+    while i < n {
+        let answer = reader_code::read_point(d, values, i as u32, q, memory);
+        put_colour(line, at, depth, colour_of(answer));
+        at += size;
+        i += 1;
+    }
+    at
+}

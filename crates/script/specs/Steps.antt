@@ -1,0 +1,123 @@
+-- What each step of a script leaves: on the desk, in the host words, the stream and the memories, and as the answers of
+-- compiling and playing.
+--
+-- The desk holds the screen record, from byte 32 on a command, at 64 how many commands there are (0 or 1), at 68 how many host
+-- words.
+use Prim.Native.Nat.{ℕ, _*_, _%_}
+use mathlib.Core.List.{List, [], _∷_}
+use mathlib.Core.Bool.{Bool, _||_, cond}
+use lib.ListN.{take, drop, replicate}
+use lib.Dec.{eqb}
+use Rattle.screen.specs.Screen.{memorySize}
+use Rattle.compiler.specs.Compile.{compiling, bufferAfter, compilingOf, answerOf as compiledFrom}
+use Rattle.compiler.specs.declared.Compiled.{Compiled}
+use Rattle.chip.specs.Play.{playing, played, answerOf as playedFrom}
+use Rattle.chip.specs.declared.Played.{Played}
+use Rattle.script.specs.Script.{numberAt, numberPut, fieldsPut, stored, wordsPut}
+
+-- ---- the steps that leave something: the first four letters of a line as a number, the first letter lowest
+-- scre
+abbrev pub screenStep : ℕ
+screenStep = 0x65726373
+
+-- comm
+abbrev pub commandStep : ℕ
+commandStep = 0x6D6D6F63
+
+-- word
+abbrev pub wordStep : ℕ
+wordStep = 0x64726F77
+
+-- stor
+abbrev pub storeStep : ℕ
+storeStep = 0x726F7473
+
+-- patc
+abbrev pub patchStep : ℕ
+patchStep = 0x63746170
+
+-- exam
+abbrev pub exampleStep : ℕ
+exampleStep = 0x6D617865
+
+-- keep
+abbrev pub keepStep : ℕ
+keepStep = 0x7065656B
+
+-- comp
+abbrev pub compileStep : ℕ
+compileStep = 0x706D6F63
+
+-- play
+abbrev pub playStep : ℕ
+playStep = 0x79616C70
+
+-- ---- what is set
+-- where a screen line's numbers go: the last two are left out there, and so are 0
+abbrev pub screenPlaces : List ℕ
+screenPlaces = 0 ∷ 1 ∷ 2 ∷ 4 ∷ 6 ∷ 8 ∷ 12 ∷ 16 ∷ 18 ∷ 20 ∷ 22 ∷ 64 ∷ 68 ∷ []
+
+-- where a command line's numbers go
+abbrev pub commandPlaces : List ℕ
+commandPlaces = 32 ∷ 33 ∷ 34 ∷ 36 ∷ 38 ∷ 40 ∷ 42 ∷ 44 ∷ 46 ∷ 48 ∷ 68 ∷ []
+
+-- the desk: the screen record without commands and words, or with the line's command as the only one
+unfoldable pub deskAfter : ℕ → List ℕ → List ℕ → List ℕ
+deskAfter k line desk =
+    cond (eqb k screenStep) (fieldsPut line 0 screenPlaces desk)
+    (cond (eqb k commandStep) (numberPut (fieldsPut line 0 commandPlaces desk) 64 1) desk)
+
+-- the host words
+unfoldable pub wordsAfter : ℕ → List ℕ → List ℕ → List ℕ
+wordsAfter k line words = cond (eqb k wordStep) (wordsPut line words) words
+
+-- the stream, with a number of it changed
+unfoldable pub streamPatched : ℕ → List ℕ → List ℕ → List ℕ
+streamPatched k line stream = cond (eqb k patchStep) (stored line stream) stream
+
+-- a step that keeps the memory, and leaves zeros
+abbrev pub keeps : ℕ → Bool
+keeps k = eqb k exampleStep || eqb k keepStep
+
+-- the memory that is kept
+unfoldable pub keptAfter : ℕ → List ℕ → List ℕ → List ℕ
+keptAfter k memory kept = cond (keeps k) memory kept
+
+-- the memory before playing
+unfoldable pub memoryAfter : ℕ → List ℕ → List ℕ → List ℕ
+memoryAfter k line memory = cond (keeps k) (replicate memorySize 0) (cond (eqb k storeStep) (stored line memory) memory)
+
+-- ---- compiling and playing
+-- what is compiled: the screen record
+abbrev pub screenOn : List ℕ → List ℕ
+screenOn desk = take 32 desk
+
+-- the command, if there is one
+abbrev pub listOn : List ℕ → List ℕ
+listOn desk = take (32 * (numberAt desk 64 % 2)) (drop 32 desk)
+
+-- as many host words as the desk says, or as there are
+abbrev pub wordsOn : List ℕ → List ℕ → List ℕ
+wordsOn desk words = take (numberAt desk 68) words
+
+-- the answer of the last compiling, into a stream buffer of `room` bytes
+unfoldable pub compiledAfter : ℕ → Compiled → List ℕ → List ℕ → ℕ → Compiled
+compiledAfter k old desk words room =
+    cond (eqb k compileStep) (compiledFrom (compiling memorySize (screenOn desk) (listOn desk) (wordsOn desk words) room)) old
+
+-- the stream buffer
+unfoldable pub streamAfter : ℕ → List ℕ → List ℕ → List ℕ → List ℕ
+streamAfter k desk words stream =
+    cond (eqb k compileStep) (bufferAfter memorySize (screenOn desk) (listOn desk) (wordsOn desk words) stream) stream
+
+-- what is played: the stream in the length that compiling gave
+abbrev pub streamOn : Compiled → List ℕ → List ℕ
+streamOn c stream = take (compilingOf c .length) stream
+
+-- the answer of the last playing
+unfoldable pub playedAfter : ℕ → Played → Compiled → List ℕ → List ℕ → Played
+playedAfter k old c stream memory = cond (eqb k playStep) (playedFrom (playing memorySize (streamOn c stream) memory)) old
+
+-- the memory after playing
+unfoldable pub memoryPlayed : ℕ → Compiled → List ℕ → List ℕ → List ℕ
+memoryPlayed k c stream memory = cond (eqb k playStep) (played memorySize (streamOn c stream) memory) memory
