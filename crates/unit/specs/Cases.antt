@@ -33,7 +33,7 @@ compiled screen list =
     let c = compiling memorySize screen list [] 1024 in c .number ∷ c .length ∷ pairs (records screen list)
 
 -- a move of 7 by 1 pixels on B2's screen, from x = from to x = to with code Ch: compiling's number and playing's, for a memory of 262,144
--- bytes; operation, source and destination; then the line afterwards, in memory and on the sheet, of which only the first eight bytes are looked at
+-- bytes; operation, source and destination; then the line of eight bytes, which alone is drawn on, afterwards: by playing and on the sheet
 abbrev moved : ℕ → ℕ → List ℕ
 moved from to =
     let screen = plain 8 0 8 1 0 in
