@@ -1,15 +1,24 @@
 -- Cases on eight bytes, by computation: 01's B2 and B3, on the line 1 2 3 4 5 6 7 8 a move of seven bytes by one to the right
 -- and to the left under code Ch, and what the wrong direction makes of each; and writes of two lines at both depths.
-use mathlib.Core.Path.{_≡_, refl}
-use mathlib.Core.Bool.{true, false}
-use mathlib.Core.List.{List, [], _∷_}
-use Prim.Native.Nat.{ℕ}
+use mathlib.Core.Path.{_≡_, refl, ap}
+use mathlib.Core.Bool.{Bool, true, false, cond}
+use mathlib.Core.List.{List, [], _∷_, map}
+use Prim.Native.Nat.{ℕ, _≤_}
+use native.Mathlib.Nat.{mod-one}
+use native.Mathlib.Omega.{arith}
+use borrow.Author.Tests.{eqb-false}
 use Rattle.pixel.specs.Pixel.{getPixel, putPixel, byteOf}
 use Rattle.pixel.specs.Raster.{bitwise, raster}
 use Rattle.blit.specs.Blit.{Blit, given, memory, positive, negative, pixels, chipLine, chipLines, chipBlit, directionOf, fromLast, starting}
 use Rattle.blit.specs.Rectangle.{inside, paintedPixel, paintedByte, painted}
 use Rattle.blit.specs.Words.{wordPixel, hostPixel, chipWord}
-use Rattle.blit.specs.Line.{rank, lagged, workLine, straightLine, copied}
+use Rattle.blit.specs.Job.{blitOf, performed, LineIn, SourceIn, JobOk}
+use Rattle.blit.specs.Line.{rank, lagged, workLine, copies, straightLine, copied}
+use Rattle.blit.specs.declared.Mix.{Mix}
+use Rattle.blit.specs.declared.Mix.the-variants.{Store, Raster}
+use Rattle.blit.specs.declared.From.{From}
+use Rattle.blit.specs.declared.From.the-variants.{Colour, Memory}
+use Rattle.blit.specs.declared.Job.{Job}
 
 abbrev pub line8 : List ℕ
 line8 = 1 ∷ 2 ∷ 3 ∷ 4 ∷ 5 ∷ 6 ∷ 7 ∷ 8 ∷ []
@@ -63,9 +72,67 @@ odd-word = refl
 -- where its source is its own pixel before, and exclusive or of a wide pixel
 pub line-cases : (copied (1 ∷ 2 ∷ 3 ∷ []) 1 2 (9 ∷ 9 ∷ 9 ∷ []) ≡ 2 ∷ 3 ∷ 9 ∷ [])
     × (straightLine 2 (λ s d. s) (λ i. 0x1234) 1 (9 ∷ 9 ∷ 9 ∷ 9 ∷ []) ≡ 0x34 ∷ 0x12 ∷ 9 ∷ 9 ∷ [])
-    × (workLine true 2 2 0xC (5 ∷ 6 ∷ 7 ∷ 8 ∷ []) 2 2 (1 ∷ 2 ∷ 3 ∷ 4 ∷ []) ≡ 5 ∷ 6 ∷ 7 ∷ 8 ∷ [])
-    × (workLine false 1 3 0xC (5 ∷ 6 ∷ 7 ∷ []) 1 3 (1 ∷ 2 ∷ 3 ∷ []) ≡ 5 ∷ 5 ∷ 5 ∷ [])
-    × (workLine true 1 3 0xC (5 ∷ 6 ∷ 7 ∷ []) 1 3 (1 ∷ 2 ∷ 3 ∷ []) ≡ 7 ∷ 7 ∷ 7 ∷ [])
-    × (workLine false 2 1 6 (0xFF ∷ 0x0F ∷ []) 1 1 (0x0F ∷ 0xFF ∷ []) ≡ 0xF0 ∷ 0xF0 ∷ [])
+    × (workLine true 2 2 (Raster 0xC) (5 ∷ 6 ∷ 7 ∷ 8 ∷ []) 2 2 (1 ∷ 2 ∷ 3 ∷ 4 ∷ []) ≡ 5 ∷ 6 ∷ 7 ∷ 8 ∷ [])
+    × (workLine false 1 3 Store (5 ∷ 6 ∷ 7 ∷ []) 1 3 (1 ∷ 2 ∷ 3 ∷ []) ≡ 5 ∷ 5 ∷ 5 ∷ [])
+    × (workLine true 1 3 (Raster 0xC) (5 ∷ 6 ∷ 7 ∷ []) 1 3 (1 ∷ 2 ∷ 3 ∷ []) ≡ 7 ∷ 7 ∷ 7 ∷ [])
+    × (workLine false 2 1 (Raster 6) (0xFF ∷ 0x0F ∷ []) 1 1 (0x0F ∷ 0xFF ∷ []) ≡ 0xF0 ∷ 0xF0 ∷ [])
 unfolding getPixel putPixel bitwise pixels rank lagged workLine straightLine copied
 line-cases = (refl, refl, refl, refl, refl, refl)
+
+-- ---- jobs on eight bytes: two lines of three pixels, four bytes apart
+
+abbrev jobAt : Bool → Mix → From → ℕ → Job
+jobAt down mix from destination =
+    record { down = down; bytes = 1; line = 4; width = 3; height = 2; mix = mix; from = from; destination = destination }
+
+-- a colour under exclusive or, a move by one byte down and up through the memory, and one that smears
+pub job-cases : (performed (jobAt false (Raster 6) (Colour 0xF) 0) line8 ≡ 0xE ∷ 0xD ∷ 0xC ∷ 4 ∷ 0xA ∷ 9 ∷ 8 ∷ 8 ∷ [])
+    × (performed (jobAt false Store (Memory 1) 0) line8 ≡ 2 ∷ 3 ∷ 4 ∷ 4 ∷ 6 ∷ 7 ∷ 8 ∷ 8 ∷ [])
+    × (performed (jobAt true Store (Memory 6) 7) line8 ≡ 1 ∷ 1 ∷ 2 ∷ 3 ∷ 5 ∷ 5 ∷ 6 ∷ 7 ∷ [])
+    × (performed (jobAt false Store (Memory 0) 1) line8 ≡ 1 ∷ 1 ∷ 1 ∷ 1 ∷ 5 ∷ 5 ∷ 5 ∷ 5 ∷ [])
+unfolding getPixel putPixel bitwise pixels chipLine chipLines chipBlit blitOf
+job-cases = (refl, refl, refl, refl)
+
+-- which mixes store the source
+pub copy-cases : map copies (Store ∷ Raster 0xC ∷ Raster 3 ∷ Raster 0xD ∷ []) ≡ true ∷ true ∷ false ∷ false ∷ []
+copy-cases = refl
+
+-- the limits of such a job are those of its lines and of its source
+limits : (m : ℕ) (down : Bool) (mix : Mix) (from : From) (destination : ℕ) → m ≤ 262144 → LineIn down 1 4 3 destination m 1 → SourceIn from down 1 4 3 m 1
+    → JobOk m (jobAt down mix from destination)
+limits m down mix from destination few to source =
+    record {
+      some-bytes = omega arith;
+      few-bytes = omega arith;
+      line = omega arith;
+      even-line = refl;
+      width = omega arith;
+      some-height = omega arith;
+      height = omega arith;
+      even = mod-one destination;
+      memory = few;
+      destination = to;
+      source = source;
+    }
+
+-- jobs that reach the first and the last byte
+pub jobs-inside : JobOk 8 (jobAt false Store (Memory 1) 1) × JobOk 8 (jobAt true Store (Memory 6) 7) × JobOk 8 (jobAt false Store (Colour 9) 1)
+jobs-inside = (
+  limits 8 false Store (Memory 1) 1 (omega arith) (omega arith) (omega arith, refl),
+  limits 8 true Store (Memory 6) 7 (omega arith) (omega arith, omega arith) ((omega arith, omega arith), refl),
+  limits 8 false Store (Colour 9) 1 (omega arith) (omega arith) refl,
+)
+
+-- jobs that reach past them, and a colour that goes down
+pub jobs-outside : (JobOk 7 (jobAt false Store (Colour 9) 1) → ⊥)
+    × (JobOk 8 (jobAt false Store (Memory 2) 1) → ⊥)
+    × (JobOk 8 (jobAt true Store (Memory 5) 7) → ⊥)
+    × (JobOk 8 (jobAt true Store (Memory 6) 8) → ⊥)
+    × (JobOk 8 (jobAt true Store (Colour 9) 7) → ⊥)
+jobs-outside = (
+  (λ k. omega (arith, k .destination)),
+  (λ k. omega (arith, k .source .0)),
+  (λ k. omega (arith, k .source .0 .0)),
+  (λ k. omega (arith, k .destination .1)),
+  (λ k. absurd (eqb-false 1 0 refl (ap (λ (t : Bool). cond t 1 0) (k .source)))),
+)

@@ -3,27 +3,17 @@ use mathlib.Core.Path.{_≡_, refl, sym, ap, _∙_}
 use mathlib.Core.Bool.{Bool, true, false, _&&_, cond}
 use mathlib.Core.Logic.{⊎-elim}
 use mathlib.Core.List.{List}
-use Prim.Native.Nat.{ℕ, zero, suc, _+_, _-_, _*_, _%_, _≤_, _<_}
-use native.Mathlib.Nat.{le-div-iff-mul-le, le-of-suc-le-suc, not-suc-le-zero}
+use Prim.Native.Nat.{ℕ, _+_, _-_, _*_, _%_, _≤_, _<_}
+use native.Mathlib.Nat.{le-div-iff-mul-le}
 use native.Mathlib.Omega.{arith}
 use borrow.Author.Tests.{lt-ltb, le-ltb, le-leb, lt-leb}
 use lib.Arith.{digits-div, digits-mod}
 use lib.ListN.{length, getD, List·getD-eq-default}
+use Rattle.record.proofs.Lists.{length-tabulate, getD-tabulate}
 use Rattle.pixel.specs.Pixel.{byteOf}
 use Rattle.blit.specs.Blit.{Blit, offset}
-use Rattle.blit.specs.Rectangle.{tabulate, row, column, lane, inside, paintedPixel, paintedByte, painted}
+use Rattle.blit.specs.Rectangle.{row, column, lane, inside, paintedPixel, paintedByte, painted}
 use Rattle.blit.proofs.Runs.{below-or-not, step-fits}
-
--- ---- lists by their elements
-
-pub length-tabulate : (n : ℕ) (f : ℕ → ℕ) → length (tabulate n f) ≡ n
-length-tabulate zero f = refl
-length-tabulate (suc n) f = ap suc (length-tabulate n (λ k. f (suc k)))
-
-pub getD-tabulate : (n : ℕ) (f : ℕ → ℕ) (i : ℕ) → i < n → getD (tabulate n f) i 0 ≡ f i
-getD-tabulate zero f i h = absurd (not-suc-le-zero h)
-getD-tabulate (suc n) f zero h = refl
-getD-tabulate (suc n) f (suc i) h = getD-tabulate n (λ k. f (suc k)) i (le-of-suc-le-suc h)
 
 pub length-painted : (b : Blit) (old : List ℕ) → length (painted b old) ≡ length old
 unfolding painted

@@ -1,22 +1,23 @@
--- Where no source pixel is one that the line has stored, the order of its pixels does not matter; and code Ch stores the source.
+-- Where no source pixel is one that the line has stored, the order of its pixels does not matter; and a mix that copies stores the source.
 use mathlib.Core.Path.{_≡_, refl, sym, ap, ap₂, _∙_}
 use mathlib.Core.Bool.{Bool, true, false}
 use mathlib.Core.List.{List, [], _∷_}
 use Prim.Native.Nat.{ℕ, zero, suc, _+_, _-_, _*_, _/_, _%_, _^_, _≤_, _<_}
-use native.Mathlib.Nat.{mod-lt, mul-suc, pow-suc}
+use native.Mathlib.Nat.{mul-suc, pow-suc}
 use native.Mathlib.Numerals.{one-add}
 use native.Mathlib.Omega.{arith}
-use borrow.Author.Tests.{lt-ltb}
-use lib.Arith.{digits-div, digits-mod, mod-mul}
-use lib.Dec.{lit<}
+use borrow.Author.Tests.{eqb-true, lt-ltb}
 use lib.ListN.{getD, set}
-use lib.Pow.{pow-add, pow-pos}
+use lib.Pow.{pow-add}
 use Rattle.pixel.specs.Pixel.{getPixel, putPixel}
 use Rattle.pixel.specs.Raster.{raster}
-use Rattle.pixel.proofs.Pixels.{get-put-above, get-put-below}
-use Rattle.pixel.proofs.Raster.{copies}
+use Rattle.pixel.proofs.Pixels.{get-lt, get-put-above, get-put-below}
+use Rattle.pixel.proofs.Raster.{copies-whole}
 use Rattle.blit.specs.Blit.{pixels}
-use Rattle.blit.specs.Line.{rank, spot, lagged, workLine, straightLine, copied}
+use Rattle.blit.specs.Job.{mixOf}
+use Rattle.blit.specs.Line.{rank, spot, lagged, workLine, copies, straightLine, copied}
+use Rattle.blit.specs.declared.Mix.{Mix}
+use Rattle.blit.specs.declared.Mix.the-variants.{Store, Raster}
 use Rattle.blit.proofs.Runs.{pixels-append, pixels-ext, step-fits}
 use Rattle.blit.proofs.Copy.{straight-copied}
 
@@ -95,82 +96,66 @@ module _ (bytes : ℕ) (combine : ℕ → ℕ → ℕ) where
       ∙ sym (pixels-append bytes combine place (λ x i. f i) 1 n m)
       ∙ ap (λ (k : ℕ). pixels bytes combine place (λ x i. f i) k m) (one-add n)
 
-module _ (bytes width code : ℕ) (source : List ℕ) where
+module _ (bytes width : ℕ) (mix : Mix) (source : List ℕ) where
   early : (down : Bool) (lag : ℕ) (m : List ℕ) (i : ℕ) → i < lag → lagged down bytes width source lag m i ≡ getPixel bytes source (spot down bytes width i)
   unfolding lagged
   early down lag m i h = rw (lt-ltb i lag h) refl
 
   either : (down : Bool) (line : List ℕ)
-      → pixels bytes (raster (8 * bytes) code) (spot down bytes width) (λ m n. getPixel bytes source (spot down bytes width n)) width line
-      ≡ pixels bytes (raster (8 * bytes) code) (λ i. i * bytes) (λ m i. getPixel bytes source (i * bytes)) width line
+      → pixels bytes (mixOf mix bytes) (spot down bytes width) (λ m n. getPixel bytes source (spot down bytes width n)) width line
+      ≡ pixels bytes (mixOf mix bytes) (λ i. i * bytes) (λ m i. getPixel bytes source (i * bytes)) width line
   unfolding rank
   either true line =
-      reversed bytes (raster (8 * bytes) code) width (λ i. i * bytes) (λ i. getPixel bytes source (i * bytes)) line (λ i k p q. step-fits bytes i k p)
+      reversed bytes (mixOf mix bytes) width (λ i. i * bytes) (λ i. getPixel bytes source (i * bytes)) line (λ i k p q. step-fits bytes i k p)
   either false line = refl
 
   -- a line whose lag is past its end, drawn side by side
   straight-work : (down : Bool) (lag : ℕ) (line : List ℕ) → width ≤ lag
-      → straightLine bytes (raster (8 * bytes) code) (λ i. getPixel bytes source (i * bytes)) width line
-      ≡ workLine down bytes width code source lag width line
+      → straightLine bytes (mixOf mix bytes) (λ i. getPixel bytes source (i * bytes)) width line
+      ≡ workLine down bytes width mix source lag width line
   unfolding straightLine workLine
   straight-work down lag line h =
       sym
-      (pixels-ext bytes (raster (8 * bytes) code) (spot down bytes width) (spot down bytes width) (lagged down bytes width source lag)
+      (pixels-ext bytes (mixOf mix bytes) (spot down bytes width) (spot down bytes width) (lagged down bytes width source lag)
       (λ m n. getPixel bytes source (spot down bytes width n)) width line
       (λ i hi. refl) (λ m i hi. early down lag m i (omega arith))
       ∙ either down line)
 
--- ---- code Ch
+-- ---- a mix that copies
 
 pub pow-bytes : (n : ℕ) → 2 ^ (8 * n) ≡ 256 ^ n
 pow-bytes zero = refl
 pow-bytes (suc n) =
     ap (λ (x : ℕ). 2 ^ x) (mul-suc 8 n) ∙ pow-add 2 (8 * n) 8 ∙ ap (λ (x : ℕ). x * 256) (pow-bytes n) ∙ sym (pow-suc 256 n)
 
--- a pixel of n bytes is stored by its n lowest bytes
-put-rest : (n : ℕ) (m : List ℕ) (a v : ℕ) → putPixel n m a (v % 256 ^ n) ≡ putPixel n m a v
-unfolding putPixel
-put-rest zero m a v = refl
-put-rest (suc n) m a v =
-    let parts : v % 256 ^ suc n ≡ v / 256 % 256 ^ n * 256 + v % 256 =
-    ap (λ (p : ℕ). v % p) (pow-suc 256 n) ∙ mod-mul v (pow-256 n) (lit< tt) in
-    let low : v % 256 < 256 = mod-lt v (lit< tt) in
-    ap₂ (λ (x y : ℕ). putPixel n (set m a x) (suc a) y)
-    (ap (λ (x : ℕ). x % 256) parts ∙ digits-mod (v / 256 % 256 ^ n) low)
-    (ap (λ (x : ℕ). x / 256) parts ∙ digits-div (v / 256 % 256 ^ n) low)
-    ∙ put-rest n (set m a (v % 256)) (suc a) (v / 256)
-  where
-    pow-256 : (n : ℕ) → 0 < 256 ^ n
-    pow-256 n = rw (← pow-bytes n) (pow-pos (8 * n))
+-- it makes the source pixel
+pub mix-copies : (mix : Mix) (bytes s d : ℕ) → copies mix ≡ true → s < 256 ^ bytes → mixOf mix bytes s d ≡ s
+mix-copies Store bytes s d e h = refl
+mix-copies (Raster c) bytes s d e h =
+    ap (λ (x : ℕ). raster (8 * bytes) x s d) (eqb-true c 0xC e) ∙ copies-whole (8 * bytes) s d (rw (pow-bytes bytes) h)
 
--- storing the source is code Ch
-pub store-is-code : (bytes : ℕ) (place : ℕ → ℕ) (fetch : List ℕ → ℕ → ℕ) (n : ℕ) (m : List ℕ)
-    → pixels bytes (λ s d. s) place fetch n m ≡ pixels bytes (raster (8 * bytes) 0xC) place fetch n m
+-- pixels that combine to their source are stored
+pixels-stored : (bytes : ℕ) (combine : ℕ → ℕ → ℕ) (place f : ℕ → ℕ) (n : ℕ) (m : List ℕ) → ((i d : ℕ) → combine (f i) d ≡ f i)
+    → pixels bytes combine place (λ x i. f i) n m ≡ pixels bytes (λ s d. s) place (λ x i. f i) n m
 unfolding pixels
-store-is-code bytes place fetch zero m = refl
-store-is-code bytes place fetch (suc n) m =
-    let x : List ℕ = pixels bytes (raster (8 * bytes) 0xC) place fetch n m in
-    ap (λ (y : List ℕ). putPixel bytes y (place n) (fetch y n)) (store-is-code bytes place fetch n m)
-    ∙ sym
-    (ap (putPixel bytes x (place n))
-    (copies (8 * bytes) (fetch x n) (getPixel bytes x (place n)) ∙ ap (λ (p : ℕ). fetch x n % p) (pow-bytes bytes))
-    ∙ put-rest bytes x (place n) (fetch x n))
+pixels-stored bytes combine place f zero m e = refl
+pixels-stored bytes combine place f (suc n) m e =
+    ap₂ (λ (x : List ℕ) (v : ℕ). putPixel bytes x (place n) v) (pixels-stored bytes combine place f n m e) (e n _)
 
 -- ---- the worker's straight lines
 
--- at a number of bytes that is known by an equation
-pub combine-work : (bytes n width code : ℕ) (source : List ℕ) (down : Bool) (lag : ℕ) (line l′ : List ℕ) → bytes ≡ n → width ≤ lag
-    → l′ ≡ straightLine n (raster (8 * n) code) (λ i. getPixel n source (i * n)) width line
-    → l′ ≡ workLine down bytes width code source lag width line
-combine-work bytes n width code source down lag line l′ e h p =
-    p ∙ straight-work n width code source down lag line h ∙ ap (λ (k : ℕ). workLine down k width code source lag width line) (sym e)
+pub combine-work : (bytes width : ℕ) (mix : Mix) (source : List ℕ) (down : Bool) (lag : ℕ) (line l′ : List ℕ) → width ≤ lag
+    → l′ ≡ straightLine bytes (mixOf mix bytes) (λ i. getPixel bytes source (i * bytes)) width line
+    → l′ ≡ workLine down bytes width mix source lag width line
+combine-work bytes width mix source down lag line l′ h p = p ∙ straight-work bytes width mix source down lag line h
 
--- code Ch copies the source's bytes
-pub copy-work : (bytes width code : ℕ) (source : List ℕ) (down : Bool) (lag : ℕ) (line l′ : List ℕ) → ((k : ℕ) → getD source k 0 < 256)
-    → code ≡ 0xC → width ≤ lag → l′ ≡ copied source 0 (width * bytes) line → l′ ≡ workLine down bytes width code source lag width line
+-- a mix that copies takes the source's bytes
+pub copy-work : (bytes width : ℕ) (mix : Mix) (source : List ℕ) (down : Bool) (lag : ℕ) (line l′ : List ℕ) → ((k : ℕ) → getD source k 0 < 256)
+    → copies mix ≡ true → width ≤ lag → l′ ≡ copied source 0 (width * bytes) line → l′ ≡ workLine down bytes width mix source lag width line
 unfolding straightLine
-copy-work bytes width code source down lag line l′ small ec h p =
-    combine-work bytes bytes width code source down lag line l′ refl h
+copy-work bytes width mix source down lag line l′ small e h p =
+    combine-work bytes width mix source down lag line l′ h
     (p ∙ sym (straight-copied source small bytes width line)
-    ∙ store-is-code bytes (λ i. i * bytes) (λ m i. getPixel bytes source (i * bytes)) width line
-    ∙ ap (λ (c : ℕ). pixels bytes (raster (8 * bytes) c) (λ i. i * bytes) (λ m i. getPixel bytes source (i * bytes)) width line) (sym ec))
+    ∙ sym
+    (pixels-stored bytes (mixOf mix bytes) (λ i. i * bytes) (λ i. getPixel bytes source (i * bytes)) width line
+    (λ i d. mix-copies mix bytes _ d e (get-lt bytes source (i * bytes) small))))

@@ -6,9 +6,10 @@ use Prim.Native.Nat.{ℕ, suc, _+_, _-_, _*_, _≤_, _<_}
 use native.Mathlib.Omega.{arith}
 use borrow.Author.Tests.{lt-ltb, le-ltb}
 use Rattle.pixel.specs.Pixel.{getPixel, putPixel}
-use Rattle.pixel.specs.Raster.{raster}
 use Rattle.blit.specs.Blit.{pixels}
+use Rattle.blit.specs.Job.{mixOf}
 use Rattle.blit.specs.Line.{rank, spot, lagged, workLine, straightLine}
+use Rattle.blit.specs.declared.Mix.{Mix}
 use Rattle.blit.proofs.Runs.{step-fits}
 
 -- ---- places in the line
@@ -46,24 +47,24 @@ module _ (bytes : ℕ) (combine : ℕ → ℕ → ℕ) (f : ℕ → ℕ) where
 
 -- ---- in the direction named
 
-module _ (down : Bool) (bytes width code : ℕ) (source : List ℕ) (lag : ℕ) where
-  pub work-none : (line : List ℕ) → line ≡ workLine down bytes width code source lag 0 line
+module _ (down : Bool) (bytes width : ℕ) (mix : Mix) (source : List ℕ) (lag : ℕ) where
+  pub work-none : (line : List ℕ) → line ≡ workLine down bytes width mix source lag 0 line
   unfolding workLine pixels
   work-none line = refl
 
-  pub work-more : (n : ℕ) (line m : List ℕ) (k v : ℕ) → m ≡ workLine down bytes width code source lag n line → k ≡ rank down width n
+  pub work-more : (n : ℕ) (line m : List ℕ) (k v : ℕ) → m ≡ workLine down bytes width mix source lag n line → k ≡ rank down width n
       → v ≡ lagged down bytes width source lag m n
-      → putPixel bytes m (k * bytes) (raster (8 * bytes) code v (getPixel bytes m (k * bytes))) ≡ workLine down bytes width code source lag (suc n) line
+      → putPixel bytes m (k * bytes) (mixOf mix bytes v (getPixel bytes m (k * bytes))) ≡ workLine down bytes width mix source lag (suc n) line
   unfolding workLine pixels
   work-more n line m k v em ek ev =
       rw (ev, ek)
       (ap (λ (x : List ℕ).
       putPixel bytes x (spot down bytes width n)
-      (raster (8 * bytes) code (lagged down bytes width source lag x n) (getPixel bytes x (spot down bytes width n)))) em)
+      (mixOf mix bytes (lagged down bytes width source lag x n) (getPixel bytes x (spot down bytes width n)))) em)
 
-  pub work-end : (n : ℕ) (line m : List ℕ) → m ≡ workLine down bytes width code source lag n line → n ≡ width
-      → m ≡ workLine down bytes width code source lag width line
-  work-end n line m e h = e ∙ ap (λ (k : ℕ). workLine down bytes width code source lag k line) h
+  pub work-end : (n : ℕ) (line m : List ℕ) → m ≡ workLine down bytes width mix source lag n line → n ≡ width
+      → m ≡ workLine down bytes width mix source lag width line
+  work-end n line m e h = e ∙ ap (λ (k : ℕ). workLine down bytes width mix source lag k line) h
 
 -- the source of a pixel before the lag, and from it on
 module _ (down : Bool) (bytes width : ℕ) (source : List ℕ) (lag : ℕ) (line : List ℕ) (n k v : ℕ) where

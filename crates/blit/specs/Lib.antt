@@ -1,4 +1,5 @@
 pub mod Blit
 pub mod Rectangle
 pub mod Words
+pub mod Job
 pub mod Line

@@ -1,16 +1,12 @@
 -- The pointwise account of a blit: all pixels of the rectangle at once, from what was there before. It knows no direction.
-use Prim.Native.Nat.{ℕ, zero, suc, _+_, _-_, _/_, _%_}
-use mathlib.Core.List.{List, [], _∷_}
+use Prim.Native.Nat.{ℕ, _+_, _-_, _/_, _%_}
+use mathlib.Core.List.{List}
 use mathlib.Core.Bool.{Bool, _&&_, cond}
 use lib.Dec.{leb, ltb}
 use lib.ListN.{length, getD}
+use Rattle.record.specs.Lists.{tabulate}
 use Rattle.pixel.specs.Pixel.{getPixel, byteOf}
 use Rattle.blit.specs.Blit.{Blit, positive, offset, sourcePixel}
-
--- the list of f 0, f 1, .. of n numbers
-abbrev pub tabulate : ℕ → (ℕ → ℕ) → List ℕ
-tabulate zero f = []
-tabulate (suc n) f = let x = f 0 in x ∷ tabulate n (λ k. f (suc k))
 
 -- an address in the rectangle is byte `lane` of the pixel in column `column` of line `row`
 abbrev pub row : Blit → ℕ → ℕ

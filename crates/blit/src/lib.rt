@@ -1,1 +1,26 @@
 // The blit engine: pixels one by one, line by line, in the direction named.
+
+// What a source pixel and a destination pixel make: the source, or the two under a raster code.
+pub enum Mix {
+    Store,
+    Raster(u8),
+}
+
+// Where the source pixels come from: one colour, or memory from an address on.
+pub enum From {
+    Colour(u16),
+    Memory(u32),
+}
+
+// A blit: its direction (down: negative), bytes of a pixel, line length in bytes, size in pixels, how pixels combine,
+// source, and destination address.
+pub struct Job {
+    pub down: bool,
+    pub bytes: usize,
+    pub line: usize,
+    pub width: usize,
+    pub height: usize,
+    pub mix: Mix,
+    pub from: From,
+    pub destination: u32,
+}

@@ -17,20 +17,14 @@ use Rattle.pixel.specs.Raster.{bit, bitwise, raster}
 use Rattle.pixel.proofs.Pixels.{get-ext, get-part, get-put, get-put-below, put-part}
 use Rattle.blit.specs.Blit.{pixels}
 use Rattle.blit.specs.Line.{rank, spot, lagged, workLine, straightLine, copied}
-use Rattle.blit_code.specs.Lines.{codeOf, lagOf}
+use Rattle.blit_code.specs.Lines.{lagOf}
 use Rattle.blit.proofs.Runs.{below-or-not, step-fits, length-pixels, keep-pixels, pixels-ext}
 use Rattle.blit.proofs.Worker.{spot-fits}
 use Rattle.blit.proofs.Copy.{copied-pixel}
-use Rattle.blit.proofs.Straight.{pow-bytes, store-is-code}
-use Rattle.blit_code.specs.Job.{mixOf}
-use Rattle.blit_code.specs.declared.Mix.{Mix}
-use Rattle.blit_code.specs.declared.Mix.the-variants.{Store, Raster}
-
--- what a mix does, a raster code does
-pub mix-is-code : (mix : Mix) (bytes : ℕ) (place : ℕ → ℕ) (fetch : List ℕ → ℕ → ℕ) (n : ℕ) (m : List ℕ)
-    → pixels bytes (mixOf mix bytes) place fetch n m ≡ pixels bytes (raster (8 * bytes) (codeOf mix)) place fetch n m
-mix-is-code Store bytes place fetch n m = store-is-code bytes place fetch n m
-mix-is-code (Raster c) bytes place fetch n m = refl
+use Rattle.blit.proofs.Straight.{pow-bytes}
+use Rattle.blit.specs.Job.{mixOf}
+use Rattle.blit.specs.declared.Mix.{Mix}
+use Rattle.blit.specs.declared.Mix.the-variants.{Raster}
 
 -- ---- a lent part put back
 
@@ -72,16 +66,16 @@ module _ (bytes : ℕ) (combine : ℕ → ℕ → ℕ) (place : ℕ → ℕ) (fe
 
 -- what the worker is given as its source: before the lag the source line has what the chip would fetch, from the lag on the
 -- chip fetches the line's own pixel
-pub record Sourced (down : Bool) (bytes width d lag code : ℕ) (fetch : List ℕ → ℕ → ℕ) (source memory : List ℕ) : Type 0 where
+pub record Sourced (down : Bool) (bytes width d lag : ℕ) (mix : Mix) (fetch : List ℕ → ℕ → ℕ) (source memory : List ℕ) : Type 0 where
   pub early : (n : ℕ) → n < width → n < lag
-      → fetch (pixels bytes (raster (8 * bytes) code) (λ i. d + spot down bytes width i) fetch n memory) n ≡ getPixel bytes source (spot down bytes width n)
+      → fetch (pixels bytes (mixOf mix bytes) (λ i. d + spot down bytes width i) fetch n memory) n ≡ getPixel bytes source (spot down bytes width n)
   pub late : (m : List ℕ) (n : ℕ) → n < width → lag ≤ n → fetch m n ≡ getPixel bytes m (d + spot down bytes width (n - lag))
 
-module _ (down : Bool) (bytes width d k lag code : ℕ) (fetch : List ℕ → ℕ → ℕ) (source memory : List ℕ) (size : k ≡ width * bytes)
-    (room : d + width * bytes ≤ length memory) (sourced : Sourced down bytes width d lag code fetch source memory) where
+module _ (down : Bool) (bytes width d k lag : ℕ) (mix : Mix) (fetch : List ℕ → ℕ → ℕ) (source memory : List ℕ) (size : k ≡ width * bytes)
+    (room : d + width * bytes ≤ length memory) (sourced : Sourced down bytes width d lag mix fetch source memory) where
   fetched : (n : ℕ) (l : List ℕ) → n < width → length l ≡ k
-      → pixels bytes (raster (8 * bytes) code) (λ i. d + spot down bytes width i) fetch n memory ≡ take d memory ++ (l ++ drop k (drop d memory))
-      → fetch (pixels bytes (raster (8 * bytes) code) (λ i. d + spot down bytes width i) fetch n memory) n ≡ lagged down bytes width source lag l n
+      → pixels bytes (mixOf mix bytes) (λ i. d + spot down bytes width i) fetch n memory ≡ take d memory ++ (l ++ drop k (drop d memory))
+      → fetch (pixels bytes (mixOf mix bytes) (λ i. d + spot down bytes width i) fetch n memory) n ≡ lagged down bytes width source lag l n
   unfolding lagged
   fetched n l h len e =
       let at : length (take d memory) ≡ d = simp length-take (omega arith) in
@@ -95,12 +89,12 @@ module _ (down : Bool) (bytes width d k lag code : ℕ) (fetch : List ℕ → �
       ∙ get-part bytes (take d memory) l _ (spot down bytes width (n - lag)) (omega (arith, spot-fits down bytes width (n - lag) (omega arith)))))
       (below-or-not n lag)
 
-  pub put-back : (l′ : List ℕ) → l′ ≡ workLine down bytes width code source lag width (take k (drop d memory))
+  pub put-back : (l′ : List ℕ) → l′ ≡ workLine down bytes width mix source lag width (take k (drop d memory))
       → take d memory ++ (l′ ++ drop k (drop d memory))
-      ≡ pixels bytes (raster (8 * bytes) code) (λ i. d + spot down bytes width i) fetch width memory
+      ≡ pixels bytes (mixOf mix bytes) (λ i. d + spot down bytes width i) fetch width memory
   unfolding workLine
   put-back l′ e =
-      part-back bytes (raster (8 * bytes) code) (spot down bytes width) fetch (lagged down bytes width source lag) width d k memory
+      part-back bytes (mixOf mix bytes) (spot down bytes width) fetch (lagged down bytes width source lag) width d k memory
       (omega arith) (λ n h. omega (arith, spot-fits down bytes width n h)) fetched l′ e
 
 -- a line of one colour, put back
@@ -124,10 +118,10 @@ fill-start bytes width k colour old l′ size room e =
 
 -- ---- a source that is known before
 
-pub sourced-given : (down : Bool) (bytes width d lag code : ℕ) (f : ℕ → ℕ) (source memory : List ℕ) → width ≤ lag
+pub sourced-given : (down : Bool) (bytes width d lag : ℕ) (mix : Mix) (f : ℕ → ℕ) (source memory : List ℕ) → width ≤ lag
     → ((n : ℕ) → n < width → getPixel bytes source (spot down bytes width n) ≡ f n)
-    → Sourced down bytes width d lag code (λ m i. f i) source memory
-sourced-given down bytes width d lag code f source memory le read =
+    → Sourced down bytes width d lag mix (λ m i. f i) source memory
+sourced-given down bytes width d lag mix f source memory le read =
     record { early = λ n h e. sym (read n h); late = λ m n h e. absurd (omega arith) }
 
 -- ---- a source line of one colour
@@ -161,16 +155,18 @@ raster-rest (suc n) c s d =
     ∙ ap (λ (x : ℕ). x * 2 + bit c (2 * (s % 2) + d % 2)) (raster-rest n c (s / 2) (d / 2))
 
 -- so the colour may be cut
-pub cut-colour : (bytes code colour : ℕ) (place : ℕ → ℕ) (n : ℕ) (m : List ℕ)
-    → pixels bytes (raster (8 * bytes) code) place (λ x i. colour % 256 ^ bytes) n m ≡ pixels bytes (raster (8 * bytes) code) place (λ x i. colour) n m
+mix-rest : (mix : Mix) (bytes code s d : ℕ) → mix ≡ Raster code → mixOf mix bytes (s % 256 ^ bytes) d ≡ mixOf mix bytes s d
+mix-rest mix bytes code s d e =
+    rw e (ap (λ (p : ℕ). raster (8 * bytes) code (s % p) d) (sym (pow-bytes bytes)) ∙ raster-rest (8 * bytes) code s d)
+
+pub cut-colour : (bytes : ℕ) (mix : Mix) (code colour : ℕ) (place : ℕ → ℕ) (n : ℕ) (m : List ℕ) → mix ≡ Raster code
+    → pixels bytes (mixOf mix bytes) place (λ x i. colour % 256 ^ bytes) n m ≡ pixels bytes (mixOf mix bytes) place (λ x i. colour) n m
 unfolding pixels
-cut-colour bytes code colour place zero m = refl
-cut-colour bytes code colour place (suc n) m =
-    let x : List ℕ = pixels bytes (raster (8 * bytes) code) place (λ y i. colour) n m in
-    ap (λ (y : List ℕ). putPixel bytes y (place n) (raster (8 * bytes) code (colour % 256 ^ bytes) (getPixel bytes y (place n)))) (cut-colour bytes code colour place n m)
-    ∙ ap (putPixel bytes x (place n))
-    (ap (λ (p : ℕ). raster (8 * bytes) code (colour % p) (getPixel bytes x (place n))) (sym (pow-bytes bytes))
-    ∙ raster-rest (8 * bytes) code colour (getPixel bytes x (place n)))
+cut-colour bytes mix code colour place zero m e = refl
+cut-colour bytes mix code colour place (suc n) m e =
+    let same = cut-colour bytes mix code colour place n m e in
+    ap₂ (λ (x : List ℕ) (v : ℕ). putPixel bytes x (place n) v) same
+    (mix-rest mix bytes code colour _ e ∙ ap (λ (x : List ℕ). mixOf mix bytes colour (getPixel bytes x (place n))) same)
 
 -- ---- a move's source
 
@@ -237,17 +233,17 @@ lag-fits true bytes width s d h es ed =
     (λ p. rw (le-ltb d s p) (down-none bytes width s d p))
     (below-or-not d s)
 
-pub sourced-move : (down : Bool) (bytes width s d code : ℕ) (old memory : List ℕ) → 0 < bytes → s % bytes ≡ 0 → d % bytes ≡ 0
+pub sourced-move : (down : Bool) (bytes width s d : ℕ) (mix : Mix) (old memory : List ℕ) → 0 < bytes → s % bytes ≡ 0 → d % bytes ≡ 0
     → width * bytes ≤ length old
-    → Sourced down bytes width d (lagOf down bytes width s d) code (λ m i. getPixel bytes m (s + spot down bytes width i))
+    → Sourced down bytes width d (lagOf down bytes width s d) mix (λ m i. getPixel bytes m (s + spot down bytes width i))
     (copied memory s (width * bytes) old) memory
-sourced-move down bytes width s d code old memory h es ed room =
+sourced-move down bytes width s d mix old memory h es ed room =
     let lags = lag-fits down bytes width s d h es ed in
     record {
       early = λ n hn e.
           get-ext bytes _ memory (s + spot down bytes width n)
           (λ x lo hi.
-          keep-pixels bytes (raster (8 * bytes) code) (λ i. d + spot down bytes width i) (λ m i. getPixel bytes m (s + spot down bytes width i)) n memory x
+          keep-pixels bytes (mixOf mix bytes) (λ i. d + spot down bytes width i) (λ m i. getPixel bytes m (s + spot down bytes width i)) n memory x
           (λ i hi′. ⊎-elim (λ z. inl (omega arith)) (λ z. inr (omega arith)) (lags .early n i hn e hi′)))
           ∙ sym (copied-pixel memory s bytes (width * bytes) old (spot down bytes width n) (spot-fits down bytes width n hn) room);
       late = λ m n hn e. ap (getPixel bytes m) (lags .late n hn e);

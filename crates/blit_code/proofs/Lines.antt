@@ -8,19 +8,18 @@ use native.Mathlib.Omega.{arith}
 use borrow.Author.Tests.{lt-ltb, le-ltb}
 use lib.ListN.{length, take, drop}
 use Rattle.pixel.specs.Pixel.{getPixel}
-use Rattle.pixel.specs.Raster.{raster}
 use Rattle.blit.specs.Blit.{Direction, towards, along, sourcePixel, pixels, chipLine, chipLines, chipBlit}
-use Rattle.blit_code.specs.Job.{mixOf, sourceOf, blitOf, LineIn, SourceIn, JobOk}
-use Rattle.blit.specs.Line.{rank, spot, workLine, straightLine, copied}
-use Rattle.blit_code.specs.Lines.{codeOf, lagOf, lowEnd, AboveZero}
-use Rattle.blit_code.specs.declared.Mix.the-variants.{Store}
-use Rattle.blit_code.specs.declared.From.{From}
-use Rattle.blit_code.specs.declared.From.the-variants.{Colour, Memory}
-use Rattle.blit_code.specs.declared.Job.{Job}
+use Rattle.blit.specs.Job.{mixOf, sourceOf, blitOf, performed, LineIn, SourceIn, JobOk}
+use Rattle.blit.specs.Line.{rank, spot, workLine, straightLine, copied, LineOk}
+use Rattle.blit.specs.declared.Mix.{Mix}
+use Rattle.blit.specs.declared.Mix.the-variants.{Store, Raster}
+use Rattle.blit.specs.declared.From.{From}
+use Rattle.blit.specs.declared.From.the-variants.{Colour, Memory}
+use Rattle.blit.specs.declared.Job.{Job}
 use Rattle.blit.proofs.Runs.{pixels-ext}
 use Rattle.blit.proofs.Worker.{rank-lt}
-use Rattle.blit.proofs.Straight.{store-is-code}
-use Rattle.blit_code.proofs.Lift.{cut-colour, fill-put-back, filled-pixel, mix-is-code, put-back, sourced-given, sourced-move}
+use Rattle.blit_code.specs.Lines.{lagOf, lowEnd, AboveZero}
+use Rattle.blit_code.proofs.Lift.{cut-colour, fill-put-back, filled-pixel, put-back, sourced-given, sourced-move}
 
 -- ---- lags
 
@@ -105,6 +104,10 @@ module _ (m : ℕ) (job : Job) (ok : JobOk m job) where
   pub line-bytes : job .width * job .bytes ≤ 2048
   line-bytes = mul-le-mul (ok .width) (ok .few-bytes)
 
+  -- a line of it, lent
+  pub lent-line : (line : List ℕ) → length line ≡ job .width * job .bytes → LineOk (job .bytes) (job .width) line
+  lent-line line e = record { some-bytes = ok .some-bytes; few-bytes = ok .few-bytes; few = ok .width; size = e }
+
   -- its destination lines
   to-line : (j : ℕ) → j < job .height → LineIn (job .down) (job .bytes) (job .line) (job .width) (job .destination) m j
   to-line j h = all-lines (job .down) (job .bytes) (job .line) (job .width) (job .destination) m (job .height) (ok .some-height) (ok .destination) j h
@@ -141,13 +144,12 @@ chip-line : (job : Job) (j m : ℕ) (fetch : List ℕ → ℕ → ℕ) (memory :
     → LineIn (job .down) (job .bytes) (job .line) (job .width) (job .destination) m j
     → ((x : List ℕ) (i : ℕ) → i < job .width
     → fetch x i ≡ sourcePixel (job .bytes) (towards (job .down)) x (sourceOf (job .from)) (j * job .line + i * job .bytes) i j)
-    → pixels (job .bytes) (raster (8 * job .bytes) (codeOf (job .mix))) (λ i. low job (job .destination) j + spot (job .down) (job .bytes) (job .width) i)
+    → pixels (job .bytes) (mixOf (job .mix) (job .bytes)) (λ i. low job (job .destination) j + spot (job .down) (job .bytes) (job .width) i)
     fetch (job .width) memory
     ≡ chipLine (blitOf job) (towards (job .down)) j (job .width) memory
 unfolding chipLine blitOf
 chip-line job j m fetch memory p e =
-    sym (mix-is-code (job .mix) (job .bytes) (λ i. low job (job .destination) j + spot (job .down) (job .bytes) (job .width) i) fetch (job .width) memory)
-    ∙ pixels-ext (job .bytes) (mixOf (job .mix) (job .bytes)) (λ i. low job (job .destination) j + spot (job .down) (job .bytes) (job .width) i)
+    pixels-ext (job .bytes) (mixOf (job .mix) (job .bytes)) (λ i. low job (job .destination) j + spot (job .down) (job .bytes) (job .width) i)
     (λ i. along (towards (job .down)) (job .destination) (j * job .line + i * job .bytes)) fetch
     (λ x i. sourcePixel (job .bytes) (towards (job .down)) x (sourceOf (job .from)) (j * job .line + i * job .bytes) i j) (job .width) memory
     (λ i h. sym (low-spot (job .down) (job .bytes) (job .line) (job .width) (job .destination) m j i p h)) e
@@ -160,32 +162,32 @@ of-memory : (from : From) (s bytes n i j a : ℕ) (dir : Direction) (x : List �
 of-memory from s bytes n i j a dir x e h = sym (ap (getPixel bytes x) h) ∙ ap (λ (y : From). sourcePixel bytes dir x (sourceOf y) n i j) (sym e)
 
 -- a line of one colour
-chip-colour : (job : Job) (memory : List ℕ) → JobOk (length memory) job → (j c d code : ℕ) → j < job .height → job .from ≡ Colour c
-    → d ≡ low job (job .destination) j → code ≡ codeOf (job .mix)
-    → pixels (job .bytes) (raster (8 * job .bytes) code) (λ i. d + spot (job .down) (job .bytes) (job .width) i) (λ m i. c) (job .width) memory
+chip-colour : (job : Job) (memory : List ℕ) → JobOk (length memory) job → (j c d : ℕ) → j < job .height → job .from ≡ Colour c
+    → d ≡ low job (job .destination) j
+    → pixels (job .bytes) (mixOf (job .mix) (job .bytes)) (λ i. d + spot (job .down) (job .bytes) (job .width) i) (λ m i. c) (job .width) memory
     ≡ chipLine (blitOf job) (towards (job .down)) j (job .width) memory
-chip-colour job memory ok j c d code hj ef ed ec =
-    ap₂ (λ (x y : ℕ).
-    pixels (job .bytes) (raster (8 * job .bytes) x) (λ i. y + spot (job .down) (job .bytes) (job .width) i) (λ m i. c) (job .width) memory) ec ed
+chip-colour job memory ok j c d hj ef ed =
+    ap (λ (x : ℕ).
+    pixels (job .bytes) (mixOf (job .mix) (job .bytes)) (λ i. x + spot (job .down) (job .bytes) (job .width) i) (λ m i. c) (job .width) memory) ed
     ∙ chip-line job j (length memory) (λ m i. c) memory (to-line (length memory) job ok j hj)
     (λ x i h. of-colour (job .from) c (job .bytes) (j * job .line + i * job .bytes) i j (towards (job .down)) x ef)
 
 -- that the worker drew from a source line of the colour
 pub colour-back : (job : Job) (memory : List ℕ) → JobOk (length memory) job → (j c d k lag code : ℕ) (old source l′ : List ℕ) → j < job .height
-    → job .from ≡ Colour c → d ≡ low job (job .destination) j → k ≡ job .width * job .bytes → code ≡ codeOf (job .mix) → job .width ≤ lag
+    → job .from ≡ Colour c → d ≡ low job (job .destination) j → k ≡ job .width * job .bytes → job .mix ≡ Raster code → job .width ≤ lag
     → job .width * job .bytes ≤ length old → source ≡ straightLine (job .bytes) (λ s d. s) (λ i. c) (job .width) old
-    → l′ ≡ workLine (job .down) (job .bytes) (job .width) code source lag (job .width) (take k (drop d memory))
+    → l′ ≡ workLine (job .down) (job .bytes) (job .width) (job .mix) source lag (job .width) (take k (drop d memory))
     → take d memory ++ (l′ ++ drop k (drop d memory)) ≡ chipLine (blitOf job) (towards (job .down)) j (job .width) memory
 colour-back job memory ok j c d k lag code old source l′ hj ef ed ek ec el room es e =
-    put-back (job .down) (job .bytes) (job .width) d k lag code (λ m i. c % 256 ^ job .bytes) source memory ek
+    put-back (job .down) (job .bytes) (job .width) d k lag (job .mix) (λ m i. c % 256 ^ job .bytes) source memory ek
     (to-room (length memory) job ok j d hj ed)
-    (sourced-given (job .down) (job .bytes) (job .width) d lag code (λ i. c % 256 ^ job .bytes) source memory el
+    (sourced-given (job .down) (job .bytes) (job .width) d lag (job .mix) (λ i. c % 256 ^ job .bytes) source memory el
     (λ n h.
     ap (λ (x : List ℕ). getPixel (job .bytes) x (spot (job .down) (job .bytes) (job .width) n)) es
     ∙ filled-pixel (job .bytes) c (job .width) old (rank (job .down) (job .width) n) (rank-lt (job .down) (job .width) n h) room))
     l′ e
-    ∙ cut-colour (job .bytes) code c (λ i. d + spot (job .down) (job .bytes) (job .width) i) (job .width) memory
-    ∙ chip-colour job memory ok j c d code hj ef ed ec
+    ∙ cut-colour (job .bytes) (job .mix) code c (λ i. d + spot (job .down) (job .bytes) (job .width) i) (job .width) memory ec
+    ∙ chip-colour job memory ok j c d hj ef ed
 
 -- that a fill drew
 pub fill-back : (job : Job) (memory : List ℕ) → JobOk (length memory) job → (j c d k : ℕ) (l′ : List ℕ) → j < job .height
@@ -195,34 +197,34 @@ pub fill-back : (job : Job) (memory : List ℕ) → JobOk (length memory) job �
 unfolding rank
 fill-back job memory ok j c d k l′ hj ef ed ek em e =
     fill-put-back (job .bytes) (job .width) d k c memory l′ ek (to-room (length memory) job ok j d hj ed) e
-    ∙ store-is-code (job .bytes) (λ i. d + i * job .bytes) (λ m i. c) (job .width) memory
-    ∙ ap (λ (t : Bool). pixels (job .bytes) (raster (8 * job .bytes) 0xC) (λ i. d + spot t (job .bytes) (job .width) i) (λ m i. c) (job .width) memory)
+    ∙ ap (λ (x : Mix). pixels (job .bytes) (mixOf x (job .bytes)) (λ i. d + i * job .bytes) (λ m i. c) (job .width) memory) (sym em)
+    ∙ ap (λ (t : Bool). pixels (job .bytes) (mixOf (job .mix) (job .bytes)) (λ i. d + spot t (job .bytes) (job .width) i) (λ m i. c) (job .width) memory)
     (sym (goes-up (length memory) job ok c ef))
-    ∙ chip-colour job memory ok j c d 0xC hj ef ed (ap codeOf (sym em))
+    ∙ chip-colour job memory ok j c d hj ef ed
 
 -- a line of a move
-pub move-back : (job : Job) (memory : List ℕ) → JobOk (length memory) job → (j a s d k lag code : ℕ) (old source l′ : List ℕ) → j < job .height
-    → job .from ≡ Memory a → s ≡ low job a j → d ≡ low job (job .destination) j → k ≡ job .width * job .bytes → code ≡ codeOf (job .mix)
+pub move-back : (job : Job) (memory : List ℕ) → JobOk (length memory) job → (j a s d k lag : ℕ) (old source l′ : List ℕ) → j < job .height
+    → job .from ≡ Memory a → s ≡ low job a j → d ≡ low job (job .destination) j → k ≡ job .width * job .bytes
     → lag ≡ lagOf (job .down) (job .bytes) (job .width) s d → job .width * job .bytes ≤ length old
     → source ≡ copied memory s (job .width * job .bytes) old
-    → l′ ≡ workLine (job .down) (job .bytes) (job .width) code source lag (job .width) (take k (drop d memory))
+    → l′ ≡ workLine (job .down) (job .bytes) (job .width) (job .mix) source lag (job .width) (take k (drop d memory))
     → take d memory ++ (l′ ++ drop k (drop d memory)) ≡ chipLine (blitOf job) (towards (job .down)) j (job .width) memory
-move-back job memory ok j a s d k lag code old source l′ hj ef es ed ek ec el room er e =
+move-back job memory ok j a s d k lag old source l′ hj ef es ed ek el room er e =
     let to = to-line (length memory) job ok j hj in
     let from = from-line (length memory) job ok a ef j hj in
     let even-s : s % job .bytes ≡ 0 =
     rw es (low-even (job .down) (job .bytes) (job .line) (job .width) a j (from-even (length memory) job ok a ef) (ok .even-line)) in
     let even-d : d % job .bytes ≡ 0 =
     rw ed (low-even (job .down) (job .bytes) (job .line) (job .width) (job .destination) j (ok .even) (ok .even-line)) in
-    put-back (job .down) (job .bytes) (job .width) d k (lagOf (job .down) (job .bytes) (job .width) s d) code
+    put-back (job .down) (job .bytes) (job .width) d k (lagOf (job .down) (job .bytes) (job .width) s d) (job .mix)
     (λ m i. getPixel (job .bytes) m (s + spot (job .down) (job .bytes) (job .width) i)) (copied memory s (job .width * job .bytes) old) memory ek
     (to-room (length memory) job ok j d hj ed)
-    (sourced-move (job .down) (job .bytes) (job .width) s d code old memory (ok .some-bytes) even-s even-d room)
+    (sourced-move (job .down) (job .bytes) (job .width) s d (job .mix) old memory (ok .some-bytes) even-s even-d room)
     l′
-    (e ∙ ap₂ (λ (x : List ℕ) (y : ℕ). workLine (job .down) (job .bytes) (job .width) code x y (job .width) (take k (drop d memory))) er el)
-    ∙ ap₂ (λ (x y : ℕ).
-    pixels (job .bytes) (raster (8 * job .bytes) x) (λ i. y + spot (job .down) (job .bytes) (job .width) i)
-    (λ m i. getPixel (job .bytes) m (s + spot (job .down) (job .bytes) (job .width) i)) (job .width) memory) ec ed
+    (e ∙ ap₂ (λ (x : List ℕ) (y : ℕ). workLine (job .down) (job .bytes) (job .width) (job .mix) x y (job .width) (take k (drop d memory))) er el)
+    ∙ ap (λ (x : ℕ).
+    pixels (job .bytes) (mixOf (job .mix) (job .bytes)) (λ i. x + spot (job .down) (job .bytes) (job .width) i)
+    (λ m i. getPixel (job .bytes) m (s + spot (job .down) (job .bytes) (job .width) i)) (job .width) memory) ed
     ∙ chip-line job j (length memory) (λ m i. getPixel (job .bytes) m (s + spot (job .down) (job .bytes) (job .width) i)) memory to
     (λ x i h.
     of-memory (job .from) a (job .bytes) (j * job .line + i * job .bytes) i j (s + spot (job .down) (job .bytes) (job .width) i) (towards (job .down)) x ef
@@ -245,6 +247,6 @@ module _ (job : Job) where
   lines-more j old m m′ e e′ = e′ ∙ ap (chipLine (blitOf job) (towards (job .down)) j (job .width)) e
 
   pub lines-end : (j : ℕ) (old m : List ℕ) → m ≡ chipLines (blitOf job) (towards (job .down)) j old → j ≡ job .height
-      → m ≡ chipBlit (blitOf job) (towards (job .down)) old
+      → m ≡ performed job old
   unfolding chipBlit blitOf
   lines-end j old m e h = e ∙ ap (λ (k : ℕ). chipLines (blitOf job) (towards (job .down)) k old) h

@@ -2,13 +2,6 @@
 use Prim.Native.Nat.{ℕ, _+_, _-_, _*_, _/_, _≤_}
 use mathlib.Core.Bool.{Bool, true, false, cond}
 use lib.Dec.{ltb}
-use Rattle.blit_code.specs.declared.Mix.{Mix}
-use Rattle.blit_code.specs.declared.Mix.the-variants.{Store, Raster}
-
--- the raster code that does what a mix does: Ch copies
-abbrev pub codeOf : Mix → ℕ
-codeOf Store = 0xC
-codeOf (Raster c) = c
 
 -- from which pixel on a move's source is a pixel that its own line has stored: s and d are the low ends of the two lines
 unfoldable pub lagOf : Bool → ℕ → ℕ → ℕ → ℕ → ℕ

@@ -3,47 +3,15 @@ ghost use mathlib.Core.Path.{_≡_};
 ghost use mathlib.Core.List.{[], _∷_};
 ghost use Prim.Native.Nat.{_+_, _*_, _/_, _%_, _≤_, _<_};
 ghost use lib.ListN.{length, replicate};
-ghost use Rattle.blit.specs.Blit.{pixels, chipLine, chipBlit, towards};
+ghost use Rattle.blit.specs.Blit.{pixels, chipLine, towards};
 ghost use Rattle.blit.specs.Words.{perWord, wordPixel};
-ghost use Rattle.blit_code.specs.Job.{mixOf, blitOf, JobOk};
+ghost use Rattle.blit.specs.Job.{mixOf, blitOf, performed, JobOk};
 ghost use Rattle.blit.specs.Line.{straightLine, copied};
-ghost use Rattle.blit_code.specs.Lines.{codeOf, lagOf, lowEnd, AboveZero};
-ghost use Rattle.blit_code.specs.declared.From.the-variants.{Colour, Memory};
-
-// What a source pixel and a destination pixel make: the source, or the two under a raster code.
-pub enum Mix {
-    Store,
-    Raster(u8),
-}
-
-// Where the source pixels come from: one colour, or memory from an address on.
-pub enum From {
-    Colour(u16),
-    Memory(u32),
-}
-
-// A blit: its direction (down: negative), bytes of a pixel, line length in bytes, size in pixels, how pixels combine,
-// source, and destination address.
-pub struct Job {
-    pub down: bool,
-    pub bytes: usize,
-    pub line: usize,
-    pub width: usize,
-    pub height: usize,
-    pub mix: Mix,
-    pub from: From,
-    pub destination: u32,
-}
-
-// The raster code that does what a mix does.
-fn code_of(mix: Mix) -> u8
-    ensures { λ r. ⌜ r ≡ codeOf mix ⌝ }
-{
-    match mix {
-        Mix::Store => 0xC,
-        Mix::Raster(code) => code,
-    }
-}
+ghost use Rattle.blit.specs.declared.From.the-variants.{Colour, Memory};
+ghost use Rattle.blit_code.specs.Lines.{lagOf, lowEnd, AboveZero};
+use blit::From;
+use blit::Job;
+use blit::Mix;
 
 // From which pixel on a move's source is a pixel that its own line has stored; s and d are the low ends of the two lines.
 fn lag_of(down: bool, bytes: usize, width: usize, s: usize, d: usize) -> usize
@@ -94,14 +62,14 @@ fn colour_line(job: Job, j: usize, colour: u16, memory: &mut [u8])
     let mix = job.mix;
     match mix {
         Mix::Store => blit_line::fill_worker(&mut memory[d..e], job.bytes, job.width, colour),
-        Mix::Raster(code) => {
+        Mix::Raster(_) => {
             let source = colour_source(job.bytes, job.width, colour);
             blit_line::pixel_worker(
                 &mut memory[d..e],
                 job.down,
                 job.bytes,
                 job.width,
-                code,
+                mix,
                 &source,
                 job.width,
             );
@@ -121,14 +89,13 @@ fn move_line(job: Job, j: usize, from: u32, source: &mut [u8], memory: &mut [u8]
     blit_line::copy_bytes(memory, s, size, source);
     let lag = lag_of(job.down, job.bytes, job.width, s, d);
     let mix = job.mix;
-    let code = code_of(mix);
     let e = d + size;
     blit_line::line_worker(
         &mut memory[d..e],
         job.down,
         job.bytes,
         job.width,
-        code,
+        mix,
         source,
         lag,
     );
@@ -137,7 +104,7 @@ fn move_line(job: Job, j: usize, from: u32, source: &mut [u8], memory: &mut [u8]
 // All lines of a blit of one colour.
 fn colour_lines(job: Job, colour: u16, memory: &mut [u8])
     requires { ⌜ JobOk (length (now memory)) job × (job .from ≡ Colour colour) ⌝ }
-    ensures { λ _. ⌜ now (memory .exit) ≡ chipBlit (blitOf job) (towards (job .down)) (now (memory .entry)) ⌝ }
+    ensures { λ _. ⌜ now (memory .exit) ≡ performed job (now (memory .entry)) ⌝ }
 {
     let mut j = 0;
     while j < job.height {
@@ -149,7 +116,7 @@ fn colour_lines(job: Job, colour: u16, memory: &mut [u8])
 // All lines of a move.
 fn move_lines(job: Job, from: u32, memory: &mut [u8])
     requires { ⌜ JobOk (length (now memory)) job × (job .from ≡ Memory from) ⌝ }
-    ensures { λ _. ⌜ now (memory .exit) ≡ chipBlit (blitOf job) (towards (job .down)) (now (memory .entry)) ⌝ }
+    ensures { λ _. ⌜ now (memory .exit) ≡ performed job (now (memory .entry)) ⌝ }
 {
     let mut source = [0u8; 2048];
     let mut j = 0;
@@ -162,7 +129,7 @@ fn move_lines(job: Job, from: u32, memory: &mut [u8])
 // A blit over the lent memory.
 pub fn perform(job: Job, memory: &mut [u8])
     requires { ⌜ JobOk (length (now memory)) job ⌝ }
-    ensures { λ _. ⌜ now (memory .exit) ≡ chipBlit (blitOf job) (towards (job .down)) (now (memory .entry)) ⌝ }
+    ensures { λ _. ⌜ now (memory .exit) ≡ performed job (now (memory .entry)) ⌝ }
 {
     let from = job.from;
     match from {
@@ -184,15 +151,6 @@ pub fn put_word(bytes: usize, mix: Mix, at: usize, count: usize, word: u16, memo
     ensures { λ _. ⌜ now (memory .exit) ≡ pixels bytes (mixOf mix bytes) (λ i. at + i * bytes) (λ m i. wordPixel bytes word i) count (now (memory .entry)) ⌝ }
 {
     let source = word_bytes(word);
-    let code = code_of(mix);
     let e = at + count * bytes;
-    blit_line::line_worker(
-        &mut memory[at..e],
-        false,
-        bytes,
-        count,
-        code,
-        &source,
-        count,
-    );
+    blit_line::line_worker(&mut memory[at..e], false, bytes, count, mix, &source, count);
 }

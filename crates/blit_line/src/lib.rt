@@ -3,12 +3,14 @@ ghost use mathlib.Core.Path.{_≡_};
 ghost use Prim.Native.Nat.{_+_, _*_, _≤_, _<_};
 ghost use lib.ListN.{length};
 ghost use Rattle.pixel.specs.Pixel.{getPixel, putPixel};
-ghost use Rattle.pixel.specs.Raster.{raster};
-ghost use Rattle.blit.specs.Line.{rank, lagged, workLine, straightLine, copied};
+ghost use Rattle.blit.specs.Job.{mixOf};
+ghost use Rattle.blit.specs.declared.Mix.the-variants.{Raster};
+ghost use Rattle.blit.specs.Line.{rank, lagged, workLine, copies, straightLine, copied, LineOk};
+use blit::Mix;
 
 // Pixels of one colour, side by side.
 fn fill_pixels(line: &mut [u8], bytes: usize, width: usize, colour: u16)
-    requires { ⌜ (0 < bytes) × (bytes ≤ 2) × (width ≤ 1024) × (length (now line) ≡ width * bytes) ⌝ }
+    requires { ⌜ LineOk bytes width (now line) ⌝ }
     ensures { λ _. ⌜ now (line .exit) ≡ straightLine bytes (λ s d. s) (λ i. colour) width (now (line .entry)) ⌝ }
 {
     let mut i = 0;
@@ -30,26 +32,64 @@ pub fn copy_bytes(from: &[u8], at: usize, size: usize, to: &mut [u8])
     }
 }
 
-// A source pixel and the pixel at a place, combined under a raster code and stored there.
-fn combine_pixel(line: &mut [u8], bytes: usize, at: usize, code: u8, v: u16)
+// What a source pixel and a destination pixel make.
+pub fn mixed_pixel(mix: Mix, bytes: usize, s: u16, d: u16) -> u16
+    requires { ⌜ bytes ≤ 2 ⌝ }
+    ensures { λ r. ⌜ r ≡ mixOf mix bytes s d ⌝ }
+{
+    match mix {
+        Mix::Store => s,
+        Mix::Raster(code) => pixel_code::combine((8 * bytes) as u32, code, s, d),
+    }
+}
+
+// Whether the source pixel is what is stored.
+fn is_copy(mix: Mix) -> bool
+    ensures { λ r. ⌜ r ≡ copies mix ⌝ }
+{
+    match mix {
+        Mix::Store => true,
+        Mix::Raster(code) => code == 0xC,
+    }
+}
+
+// What a source pixel and the pixel at a place make, stored there.
+fn combine_pixel(line: &mut [u8], bytes: usize, at: usize, mix: Mix, v: u16)
     requires { ⌜ (0 < bytes) × (bytes ≤ 2) × (at + bytes ≤ length (now line)) ⌝ }
-    ensures { λ _. ⌜ now (line .exit) ≡ putPixel bytes (now (line .entry)) at (raster (8 * bytes) code v (getPixel bytes (now (line .entry)) at)) ⌝ }
+    ensures { λ _. ⌜ now (line .exit) ≡ putPixel bytes (now (line .entry)) at (mixOf mix bytes v (getPixel bytes (now (line .entry)) at)) ⌝ }
 {
     let d = pixel_code::get_pixel(line, bytes, at);
-    let r = pixel_code::combine((8 * bytes) as u32, code, v, d);
+    let r = mixed_pixel(mix, bytes, v, d);
     pixel_code::put_pixel(line, bytes, at, r);
 }
 
-// Pixels of a source line, combined with those of the line under a raster code, side by side.
-fn combine_pixels(line: &mut [u8], bytes: usize, width: usize, code: u8, source: &[u8])
-    requires { ⌜ (0 < bytes) × (bytes ≤ 2) × (width ≤ 1024) × (length (now line) ≡ width * bytes) × (width * bytes ≤ length (now source)) ⌝ }
-    ensures { λ _. ⌜ now (line .exit) ≡ straightLine bytes (raster (8 * bytes) code) (λ i. getPixel bytes (now (source .entry)) (i * bytes)) width (now (line .entry)) ⌝ }
+// Pixels of a source line and those of the line under a raster code, side by side.
+fn raster_pixels(line: &mut [u8], bytes: usize, width: usize, code: u8, source: &[u8])
+    requires { ⌜ LineOk bytes width (now line) × (width * bytes ≤ length (now source)) ⌝ }
+    ensures { λ _. ⌜ now (line .exit) ≡ straightLine bytes (mixOf (Raster code) bytes) (λ i. getPixel bytes (now (source .entry)) (i * bytes)) width (now (line .entry)) ⌝ }
 {
     let mut i = 0;
     while i < width {
         let v = pixel_code::get_pixel(source, bytes, i * bytes);
-        combine_pixel(line, bytes, i * bytes, code, v);
+        combine_pixel(line, bytes, i * bytes, Mix::Raster(code), v);
         i += 1;
+    }
+}
+
+// Pixels of a source line and those of the line, mixed side by side. The mix is looked at once, not pixel by pixel.
+fn combine_pixels(line: &mut [u8], bytes: usize, width: usize, mix: Mix, source: &[u8])
+    requires { ⌜ LineOk bytes width (now line) × (width * bytes ≤ length (now source)) ⌝ }
+    ensures { λ _. ⌜ now (line .exit) ≡ straightLine bytes (mixOf mix bytes) (λ i. getPixel bytes (now (source .entry)) (i * bytes)) width (now (line .entry)) ⌝ }
+{
+    match mix {
+        Mix::Store => copy_bytes(source, 0, width * bytes, line),
+        Mix::Raster(code) => {
+            if bytes == 1 {
+                raster_pixels(line, 1, width, code, source);
+            } else {
+                raster_pixels(line, 2, width, code, source);
+            }
+        }
     }
 }
 
@@ -71,7 +111,7 @@ fn lagged_pixel(
     lag: usize,
     n: usize,
 ) -> u16
-    requires { ⌜ (0 < bytes) × (bytes ≤ 2) × (n < width) × (width ≤ 1024) × (length (now line) ≡ width * bytes) × (width * bytes ≤ length (now source)) ⌝ }
+    requires { ⌜ LineOk bytes width (now line) × (width * bytes ≤ length (now source)) × (n < width) ⌝ }
     ensures { λ r. ⌜ r ≡ lagged down bytes width (now (source .entry)) lag (now (line .entry)) n ⌝ }
 {
     if n < lag {
@@ -88,25 +128,25 @@ fn smear_pixels(
     down: bool,
     bytes: usize,
     width: usize,
-    code: u8,
+    mix: Mix,
     source: &[u8],
     lag: usize,
 )
-    requires { ⌜ (0 < bytes) × (bytes ≤ 2) × (width ≤ 1024) × (length (now line) ≡ width * bytes) × (width * bytes ≤ length (now source)) ⌝ }
-    ensures { λ _. ⌜ now (line .exit) ≡ workLine down bytes width code (now (source .entry)) lag width (now (line .entry)) ⌝ }
+    requires { ⌜ LineOk bytes width (now line) × (width * bytes ≤ length (now source)) ⌝ }
+    ensures { λ _. ⌜ now (line .exit) ≡ workLine down bytes width mix (now (source .entry)) lag width (now (line .entry)) ⌝ }
 {
     let mut n = 0;
     while n < width {
         let v = lagged_pixel(line, down, bytes, width, source, lag, n);
         let k = rank_of(down, width, n);
-        combine_pixel(line, bytes, k * bytes, code, v);
+        combine_pixel(line, bytes, k * bytes, mix, v);
         n += 1;
     }
 }
 
 // Draws one colour over a lent line.
 pub fn fill_worker(line: &mut [u8], bytes: usize, width: usize, colour: u16)
-    requires { ⌜ (0 < bytes) × (bytes ≤ 2) × (width ≤ 1024) × (length (now line) ≡ width * bytes) ⌝ }
+    requires { ⌜ LineOk bytes width (now line) ⌝ }
     ensures { λ _. ⌜ now (line .exit) ≡ straightLine bytes (λ s d. s) (λ i. colour) width (now (line .entry)) ⌝ }
 {
     if bytes == 1 {
@@ -116,49 +156,44 @@ pub fn fill_worker(line: &mut [u8], bytes: usize, width: usize, colour: u16)
     }
 }
 
-// Draws a source line over a lent line under a raster code, pixel by pixel, in the direction named. From the lag on the source
-// is the line itself.
+// Draws a source line over a lent line, pixel by pixel in the direction named. From the lag on the source is the line itself.
 pub fn pixel_worker(
     line: &mut [u8],
     down: bool,
     bytes: usize,
     width: usize,
-    code: u8,
+    mix: Mix,
     source: &[u8],
     lag: usize,
 )
-    requires { ⌜ (0 < bytes) × (bytes ≤ 2) × (width ≤ 1024) × (length (now line) ≡ width * bytes) × (width * bytes ≤ length (now source)) ⌝ }
-    ensures { λ _. ⌜ now (line .exit) ≡ workLine down bytes width code (now (source .entry)) lag width (now (line .entry)) ⌝ }
+    requires { ⌜ LineOk bytes width (now line) × (width * bytes ≤ length (now source)) ⌝ }
+    ensures { λ _. ⌜ now (line .exit) ≡ workLine down bytes width mix (now (source .entry)) lag width (now (line .entry)) ⌝ }
 {
     if lag < width {
-        smear_pixels(line, down, bytes, width, code, source, lag);
+        smear_pixels(line, down, bytes, width, mix, source, lag);
         return;
     }
-    if bytes == 1 {
-        combine_pixels(line, 1, width, code, source);
-    } else {
-        combine_pixels(line, 2, width, code, source);
-    }
+    combine_pixels(line, bytes, width, mix, source);
 }
 
-// The same, with the source line's bytes copied where code Ch does not smear.
+// The same, with the source line's bytes copied where a mix that copies does not smear.
 pub fn line_worker(
     line: &mut [u8],
     down: bool,
     bytes: usize,
     width: usize,
-    code: u8,
+    mix: Mix,
     source: &[u8],
     lag: usize,
 )
-    requires { ⌜ (0 < bytes) × (bytes ≤ 2) × (width ≤ 1024) × (length (now line) ≡ width * bytes) × (width * bytes ≤ length (now source)) ⌝ }
-    ensures { λ _. ⌜ now (line .exit) ≡ workLine down bytes width code (now (source .entry)) lag width (now (line .entry)) ⌝ }
+    requires { ⌜ LineOk bytes width (now line) × (width * bytes ≤ length (now source)) ⌝ }
+    ensures { λ _. ⌜ now (line .exit) ≡ workLine down bytes width mix (now (source .entry)) lag width (now (line .entry)) ⌝ }
 {
-    if code == 0xC {
+    if is_copy(mix) {
         if width <= lag {
             copy_bytes(source, 0, width * bytes, line);
             return;
         }
     }
-    pixel_worker(line, down, bytes, width, code, source, lag);
+    pixel_worker(line, down, bytes, width, mix, source, lag);
 }

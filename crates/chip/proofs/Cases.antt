@@ -10,9 +10,10 @@ use Rattle.record.specs.declared.Record.{Record}
 use Rattle.pixel.specs.Pixel.{getPixel, putPixel}
 use Rattle.pixel.specs.Raster.{bitwise}
 use Rattle.blit.specs.Blit.{pixels, chipLine, chipLines, chipBlit}
+use Rattle.blit.specs.Job.{blitOf}
 use Rattle.blit.specs.Words.{wordPixel, chipWord}
 use Rattle.chip.specs.Register.{listed, fits, screenAfter, blitAfter}
-use Rattle.chip.specs.Start.{operation, rasterCode, bytesOf, sourceOf, destinationOf, lineOf, widthOf, heightOf, foregroundOf, startable, span, within, fillOf, moveOf, writeOf, started}
+use Rattle.chip.specs.Start.{operation, rasterCode, bytesOf, sourceOf, destinationOf, lineOf, widthOf, heightOf, foregroundOf, sourceFits, startable, span, within, mixBy, fromBy, jobOf, writeOf, started}
 use Rattle.chip.specs.Admit.{admitRows, refusal, dueAfter, dueOf, chipAfter, effect}
 use Rattle.chip.specs.Play.{newChip, run, applied, ending, playing, played, playingOf, answerOf}
 use Rattle.chip.specs.declared.Registers.{Registers}
@@ -37,7 +38,7 @@ b1 = screenRecords 0 0x50 0 0 0 0 ++ commandRecords 0xC 0 0x190A 0xA0 0x63 0x95 
 pub b1-played : (memory : List ℕ) → length memory ≡ 262144
     → playing 262144 (streamBytes b1) memory
     ≡ acceptedBy (record { main = record { start = 0; offset = 0x50 }; window = record { start = 0; offset = 0 }; x = 0; y = 0 })
-unfolding firstOf recordBytes streamBytes recordAt recordsFrom recordsOf listed fits screenAfter blitAfter startable span within admitRows refusal dueAfter dueOf chipAfter newChip run ending playing
+unfolding firstOf recordBytes streamBytes recordAt recordsFrom recordsOf listed fits screenAfter blitAfter sourceFits startable span within admitRows refusal dueAfter dueOf chipAfter newChip run ending playing
 b1-played memory e = rw e refl
 
 -- the registers are then its values
@@ -48,7 +49,7 @@ pub b1-registers : run 262144 newChip 0 b1
       blit = record { control = 1; command = 0xC; source = 0; destination = 0x190A; offset = 0xA0; width = 0x63; height = 0x95; background = 0; foreground = 1 };
       due = record { any = false; line = 0; word = 0 };
     })
-unfolding firstOf listed fits screenAfter blitAfter startable span within admitRows refusal dueAfter dueOf chipAfter newChip run
+unfolding firstOf listed fits screenAfter blitAfter sourceFits startable span within admitRows refusal dueAfter dueOf chipAfter newChip run
 b1-registers = refl
 
 -- a line of eight pixels at depth 8
@@ -64,11 +65,11 @@ b3 = screenRecords 0 2 0 0 0 0 ++ commandRecords 0xC0002 1 0 4 6 0 0 0 1
 
 -- admitted in a memory of 262,144 bytes, and applied to the line
 pub b2-played : (run 262144 newChip 0 b2 .number ≡ 0) × (applied newChip b2 line8 ≡ 1 ∷ 1 ∷ 2 ∷ 3 ∷ 4 ∷ 5 ∷ 6 ∷ 7 ∷ [])
-unfolding firstOf getPixel putPixel bitwise pixels chipLine chipLines chipBlit listed fits screenAfter blitAfter startable span within fillOf moveOf started admitRows refusal dueAfter dueOf chipAfter effect newChip run applied
+unfolding firstOf getPixel putPixel bitwise pixels chipLine chipLines chipBlit blitOf listed fits screenAfter blitAfter sourceFits startable span within mixBy fromBy jobOf started admitRows refusal dueAfter dueOf chipAfter effect newChip run applied
 b2-played = (refl, refl)
 
 pub b3-played : (run 262144 newChip 0 b3 .number ≡ 0) × (applied newChip b3 line8 ≡ 2 ∷ 3 ∷ 4 ∷ 5 ∷ 6 ∷ 7 ∷ 8 ∷ 8 ∷ [])
-unfolding firstOf getPixel putPixel bitwise pixels chipLine chipLines chipBlit listed fits screenAfter blitAfter startable span within fillOf moveOf started admitRows refusal dueAfter dueOf chipAfter effect newChip run applied
+unfolding firstOf getPixel putPixel bitwise pixels chipLine chipLines chipBlit blitOf listed fits screenAfter blitAfter sourceFits startable span within mixBy fromBy jobOf started admitRows refusal dueAfter dueOf chipAfter effect newChip run applied
 b3-played = (refl, refl)
 
 -- ---- refusals of one record, the lowest number first
@@ -91,7 +92,7 @@ pub refusals-hold : (refusal 8 newChip (recordWith 0x60 0) ≡ 20)
     × (refusal 8 waitingChip (recordWith 0x8018 0x3FF) ≡ 23)
     × (refusal 8 waitingChip (recordWith 0x10000 0xFFFF) ≡ 0)
     × (refusal 8 (chipAfter (armed 0xC) (recordWith 0x8010 7)) (recordWith 0x8000 1) ≡ 0)
-unfolding firstOf listed fits screenAfter blitAfter startable span within admitRows refusal dueAfter dueOf chipAfter newChip
+unfolding firstOf listed fits screenAfter blitAfter sourceFits startable span within admitRows refusal dueAfter dueOf chipAfter newChip
 refusals-hold = (refl, refl, refl, refl, refl, refl, refl, refl, refl, refl)
 
 -- ---- the fields of 8000h, and how far a blit reaches
@@ -105,7 +106,7 @@ pub fills-hold : (fits 0x8000 0x40001 ≡ true)
     × (played 8 (streamBytes (three 5)) line8 ≡ 1 ∷ 2 ∷ 3 ∷ 4 ∷ 5 ∷ 9 ∷ 9 ∷ 9 ∷ [])
     × (playing 8 (streamBytes (three 6)) line8 .number ≡ 22)
     × (played 8 (streamBytes (three 6)) line8 ≡ line8)
-unfolding firstOf recordBytes streamBytes recordAt recordsFrom recordsOf getPixel putPixel bitwise pixels chipLine chipLines chipBlit listed fits screenAfter blitAfter startable span within fillOf moveOf started admitRows refusal dueAfter dueOf chipAfter effect newChip run applied ending playing played
+unfolding firstOf recordBytes streamBytes recordAt recordsFrom recordsOf getPixel putPixel bitwise pixels chipLine chipLines chipBlit blitOf listed fits screenAfter blitAfter sourceFits startable span within mixBy fromBy jobOf started admitRows refusal dueAfter dueOf chipAfter effect newChip run applied ending playing played
 fills-hold = (refl, refl, refl, refl, refl)
 
 -- ---- registers
@@ -153,7 +154,7 @@ pub keeps : run 262144 newChip 0 (screenRecords 1 2 3 4 5 6 ++ commandRecords 0x
       blit = record { control = 0; command = 0xC; source = 8; destination = 9; offset = 10; width = 11; height = 12; background = 13; foreground = 14 };
       due = record { any = false; line = 0; word = 0 };
     })
-unfolding firstOf listed fits screenAfter blitAfter startable span within admitRows refusal dueAfter dueOf chipAfter newChip run
+unfolding firstOf listed fits screenAfter blitAfter sourceFits startable span within admitRows refusal dueAfter dueOf chipAfter newChip run
 keeps = refl
 
 -- each field is read by its bits, up to its last value
@@ -190,7 +191,7 @@ pub starts-known : started-by 0 0 0 0 0 1 ∷ started-by 2 0 0 0 0 1 ∷ started
     ∷ 21 ∷ 0 ∷ 21 ∷ 21 ∷ 21
     ∷ 0
     ∷ []
-unfolding firstOf listed fits screenAfter blitAfter startable span within admitRows refusal dueAfter dueOf chipAfter newChip
+unfolding firstOf listed fits screenAfter blitAfter sourceFits startable span within admitRows refusal dueAfter dueOf chipAfter newChip
 starts-known = refl
 
 -- 22: a byte past the memory, or below it in negative direction: of the destination under each operation, and of a move's source alone. Two
@@ -207,7 +208,7 @@ pub starts-inside : started-by 0xC 0 1 2 1 1 ∷ started-by 0xC 0 2 2 1 1
     ∷ 0 ∷ 22 ∷ 22 ∷ 22 ∷ 22
     ∷ 0 ∷ 22 ∷ 0 ∷ 22
     ∷ []
-unfolding firstOf listed fits screenAfter blitAfter startable span within admitRows refusal dueAfter dueOf chipAfter newChip
+unfolding firstOf listed fits screenAfter blitAfter sourceFits startable span within admitRows refusal dueAfter dueOf chipAfter newChip
 starts-inside = refl
 
 -- ---- two rows that fail at once
@@ -218,7 +219,7 @@ pub first-of-two : refusal 8 waitingChip (recordWith 0x60 0xFFFFFFFF)
     ∷ refusal 8 (record { screen = newChip .screen; blit = chipAfter (armed 0xC) (recordWith 0x8010 8) .blit; due = waitingChip .due }) (recordWith 0x8000 1)
     ∷ []
     ≡ 20 ∷ 21 ∷ 22 ∷ []
-unfolding firstOf listed fits screenAfter blitAfter startable span within admitRows refusal dueAfter dueOf chipAfter newChip
+unfolding firstOf listed fits screenAfter blitAfter sourceFits startable span within admitRows refusal dueAfter dueOf chipAfter newChip
 first-of-two = refl
 
 -- playing's number and place over eight bytes
@@ -244,7 +245,7 @@ pub in-order : told (streamBytes waiting ++ (0 ∷ [])) (0 ∷ line8)
     ∷ (23 ∷ 2 ∷ [])
     ∷ (0 ∷ 0 ∷ [])
     ∷ []
-unfolding firstOf recordBytes streamBytes recordAt recordsFrom recordsOf listed fits screenAfter blitAfter startable span within admitRows refusal dueAfter dueOf chipAfter newChip run ending playing
+unfolding firstOf recordBytes streamBytes recordAt recordsFrom recordsOf listed fits screenAfter blitAfter sourceFits startable span within admitRows refusal dueAfter dueOf chipAfter newChip run ending playing
 in-order = refl
 
 -- all other numbers of a refusal are 0, also where screen registers were written before it; and the answers with such numbers
@@ -253,7 +254,7 @@ pub refused-whole : (playing 8 (streamBytes waiting) line8
     × (answerOf (playing 8 (streamBytes waiting) line8) ≡ Refused 23 2)
     × (playingOf (Refused 23 2) ≡ playing 8 (streamBytes waiting) line8)
     × (played 8 (streamBytes waiting) line8 ≡ line8)
-unfolding firstOf recordBytes streamBytes recordAt recordsFrom recordsOf listed fits screenAfter blitAfter startable span within admitRows refusal dueAfter dueOf chipAfter newChip run ending playing played playingOf answerOf
+unfolding firstOf recordBytes streamBytes recordAt recordsFrom recordsOf listed fits screenAfter blitAfter sourceFits startable span within admitRows refusal dueAfter dueOf chipAfter newChip run ending playing played playingOf answerOf
 refused-whole = (refl, refl, refl, refl)
 
 -- ---- a write, played: two lines of three pixels from address 1, four bytes apart, under exclusive or. Each line takes two words, the low
@@ -265,7 +266,7 @@ write =
 
 pub write-played : (playing 8 (streamBytes write) line8 .number ≡ 0)
     × (played 8 (streamBytes write) line8 ≡ 1 ∷ 3 ∷ 1 ∷ 7 ∷ 5 ∷ 2 ∷ 2 ∷ 14 ∷ [])
-unfolding firstOf recordBytes streamBytes recordAt recordsFrom recordsOf getPixel putPixel bitwise pixels chipLine chipLines chipBlit wordPixel chipWord listed fits screenAfter blitAfter startable span within fillOf moveOf writeOf started admitRows refusal dueAfter dueOf chipAfter effect newChip run applied ending playing played
+unfolding firstOf recordBytes streamBytes recordAt recordsFrom recordsOf getPixel putPixel bitwise pixels chipLine chipLines chipBlit blitOf wordPixel chipWord listed fits screenAfter blitAfter sourceFits startable span within mixBy fromBy jobOf writeOf started admitRows refusal dueAfter dueOf chipAfter effect newChip run applied ending playing played
 write-played = (refl, refl)
 
 -- at depth 16: a fill of two pixels from address 2 with FF0Fh, then a move of one pixel from 0 to 4 under exclusive or
@@ -276,7 +277,7 @@ wide =
 
 pub wide-played : (playing 8 (streamBytes wide) line8 .number ≡ 0)
     × (played 8 (streamBytes wide) line8 ≡ 1 ∷ 2 ∷ 0x0F ∷ 0xFF ∷ 0x0E ∷ 0xFD ∷ 7 ∷ 8 ∷ [])
-unfolding firstOf recordBytes streamBytes recordAt recordsFrom recordsOf getPixel putPixel bitwise pixels chipLine chipLines chipBlit listed fits screenAfter blitAfter startable span within fillOf moveOf started admitRows refusal dueAfter dueOf chipAfter effect newChip run applied ending playing played
+unfolding firstOf recordBytes streamBytes recordAt recordsFrom recordsOf getPixel putPixel bitwise pixels chipLine chipLines chipBlit blitOf listed fits screenAfter blitAfter sourceFits startable span within mixBy fromBy jobOf started admitRows refusal dueAfter dueOf chipAfter effect newChip run applied ending playing played
 wide-played = (refl, refl)
 
 -- a write at depth 16: two pixels from address 4, a word each
@@ -285,5 +286,5 @@ wide-write =
     recordWith 0x8008 0xC0000 ∷ recordWith 0x8010 4 ∷ recordWith 0x8018 1 ∷ recordWith 0x8000 0x40001 ∷ recordWith 0x10000 0x0201 ∷ recordWith 0x10000 0x0403 ∷ []
 
 pub wide-written : (playing 8 (streamBytes wide-write) line8 .number ≡ 0) × (played 8 (streamBytes wide-write) line8 ≡ 1 ∷ 2 ∷ 3 ∷ 4 ∷ 1 ∷ 2 ∷ 3 ∷ 4 ∷ [])
-unfolding firstOf recordBytes streamBytes recordAt recordsFrom recordsOf getPixel putPixel bitwise pixels wordPixel chipWord listed fits screenAfter blitAfter startable span within writeOf started admitRows refusal dueAfter dueOf chipAfter effect newChip run applied ending playing played
+unfolding firstOf recordBytes streamBytes recordAt recordsFrom recordsOf getPixel putPixel bitwise pixels wordPixel chipWord listed fits screenAfter blitAfter sourceFits startable span within mixBy writeOf started admitRows refusal dueAfter dueOf chipAfter effect newChip run applied ending playing played
 wide-written = (refl, refl)

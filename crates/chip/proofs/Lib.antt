@@ -5,3 +5,4 @@ pub mod Tables
 pub mod Plays
 pub mod Commands
 pub mod Cases
+pub mod Starts

@@ -1,10 +1,15 @@
 -- What the blit registers say of a blit that is started (01, "Blits"). Each is read by its bits (002 section 9.1).
 use Prim.Native.Nat.{ℕ, _+_, _*_, _/_, _%_}
 use mathlib.Core.List.{List}
-use mathlib.Core.Bool.{Bool, not, _&&_, _||_, cond}
+use mathlib.Core.Bool.{Bool, true, false, _&&_, cond}
 use lib.Dec.{leb, eqb}
-use Rattle.pixel.specs.Raster.{raster}
-use Rattle.blit.specs.Blit.{Blit, Source, given, memory, positive, negative, chipBlit}
+use Rattle.blit.specs.Blit.{Blit, given}
+use Rattle.blit.specs.Job.{mixOf, performed}
+use Rattle.blit.specs.declared.Mix.{Mix}
+use Rattle.blit.specs.declared.Mix.the-variants.{Store, Raster}
+use Rattle.blit.specs.declared.From.{From}
+use Rattle.blit.specs.declared.From.the-variants.{Colour, Memory}
+use Rattle.blit.specs.declared.Job.{Job}
 use Rattle.chip.specs.declared.Registers.{Registers}
 
 -- 8008h bits 3-0
@@ -41,24 +46,30 @@ heightOf b = b .height % 1024 + 1
 abbrev pub foregroundOf : Registers → ℕ
 foregroundOf b = b .foreground % 65536
 
--- the operations of the model (002 section 9.1): 0 write, 2 move in positive direction, 3 move in negative direction, Ch fill
-abbrev pub isMove : Registers → Bool
-isMove b = eqb (operation b) 2 || eqb (operation b) 3
-
-abbrev pub isKnown : Registers → Bool
-isKnown b = isMove b || (eqb (operation b) 0 || eqb (operation b) 0xC)
+-- a value for each operation of the model (002 section 9.1): 0 write, 2 move in positive direction, 3 move in negative direction,
+-- Ch fill; and one for any other number
+module _ {A : Type 0} where
+  abbrev pub byBlit : ℕ → A → A → A → A → A → A
+  byBlit operation write up down fill other =
+      cond (eqb operation 0) write (cond (eqb operation 2) up (cond (eqb operation 3) down (cond (eqb operation 0xC) fill other)))
 
 -- an address of whole pixels: even at depth 16
 abbrev pub wholeAt : Registers → ℕ → Bool
 wholeAt b a = eqb (a % bytesOf b) 0
 
+-- what is asked of the source address: 0 of a write, whole pixels of a move, nothing of a fill; the model has no other operation
+unfoldable pub sourceFits : Registers → Bool
+sourceFits b =
+    byBlit (operation b)
+    (eqb (sourceOf b) 0)
+    (wholeAt b (sourceOf b))
+    (wholeAt b (sourceOf b))
+    true
+    false
+
 -- not refused by 21: an operation of the model, used addresses even at depth 16, a write's source start 0
 unfoldable pub startable : Registers → Bool
-startable b =
-    isKnown b
-    && (wholeAt b (destinationOf b)
-    && ((not (isMove b) || wholeAt b (sourceOf b))
-    && (not (eqb (operation b) 0) || eqb (sourceOf b) 0)))
+startable b = sourceFits b && wholeAt b (destinationOf b)
 
 -- from the first byte of the first pixel to that of the last
 unfoldable pub span : Registers → ℕ
@@ -74,41 +85,66 @@ backward m b a = leb (span b) a && leb (a + bytesOf b) m
 -- not refused by 22: every byte that the blit touches lies in the memory; a move touches its source under any raster code
 unfoldable pub within : ℕ → Registers → Bool
 within m b =
-    cond (eqb (operation b) 3)
+    byBlit (operation b)
+    (forward m b (destinationOf b))
+    (forward m b (destinationOf b) && forward m b (sourceOf b))
     (backward m b (destinationOf b) && backward m b (sourceOf b))
-    (forward m b (destinationOf b) && (not (eqb (operation b) 2) || forward m b (sourceOf b)))
+    (forward m b (destinationOf b))
+    true
 
--- the blit of the registers, with a way to combine and a source
-abbrev pub blitBy : Registers → (ℕ → ℕ → ℕ) → Source → Blit
-blitBy b combine source =
+-- what source and destination pixel make: "Fill stores the foreground", the others combine under the raster code
+unfoldable pub mixBy : Registers → Mix
+mixBy b =
+    byBlit (operation b)
+    (Raster (rasterCode b))
+    (Raster (rasterCode b))
+    (Raster (rasterCode b))
+    Store
+    Store
+
+-- where the source pixels are, a move's and a fill's; a write's come with its data words
+unfoldable pub fromBy : Registers → From
+fromBy b =
+    byBlit (operation b)
+    (Colour 0)
+    (Memory (sourceOf b))
+    (Memory (sourceOf b))
+    (Colour (foregroundOf b))
+    (Colour 0)
+
+-- the blit that the registers name
+unfoldable pub jobOf : Registers → Job
+jobOf b =
+    record {
+      down = eqb (operation b) 3;
+      bytes = bytesOf b;
+      line = lineOf b;
+      width = widthOf b;
+      height = heightOf b;
+      mix = mixBy b;
+      from = fromBy b;
+      destination = destinationOf b;
+    }
+
+-- a write, whose pixels come with its data words, and are combined under the raster code
+unfoldable pub writeOf : Registers → (ℕ → ℕ → ℕ) → Blit
+writeOf b pixel =
     record {
       bytes = bytesOf b;
       line = lineOf b;
       width = widthOf b;
       height = heightOf b;
-      combine = combine;
-      source = source;
+      combine = mixOf (Raster (rasterCode b)) (bytesOf b);
+      source = given pixel;
       destination = destinationOf b;
     }
-
--- source and destination pixel under the raster code
-abbrev pub byCode : Registers → ℕ → ℕ → ℕ
-byCode b s d = raster (8 * bytesOf b) (rasterCode b) s d
-
--- "Fill stores the foreground"
-unfoldable pub fillOf : Registers → Blit
-fillOf b = blitBy b (λ s d. s) (given (λ i j. foregroundOf b))
-
-unfoldable pub moveOf : Registers → Blit
-moveOf b = blitBy b (byCode b) (memory (sourceOf b))
-
--- a write, whose pixels come with its data words
-unfoldable pub writeOf : Registers → (ℕ → ℕ → ℕ) → Blit
-writeOf b pixel = blitBy b (byCode b) (given pixel)
 
 -- what a started blit does to the memory by itself; a write waits for its data
 unfoldable pub started : Registers → List ℕ → List ℕ
 started b old =
-    cond (eqb (operation b) 0xC) (chipBlit (fillOf b) positive old)
-    (cond (eqb (operation b) 2) (chipBlit (moveOf b) positive old)
-    (cond (eqb (operation b) 3) (chipBlit (moveOf b) negative old) old))
+    byBlit (operation b)
+    old
+    (performed (jobOf b) old)
+    (performed (jobOf b) old)
+    (performed (jobOf b) old)
+    old

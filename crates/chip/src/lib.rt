@@ -31,11 +31,11 @@ pub struct Chip {
 // A refusal number and the record's index, or 0, 0 and the chip after the records.
 pub struct Run {
     pub number: u32,
-    pub place: usize,
+    pub place: u64,
     pub chip: Chip,
 }
 
 pub enum Played {
     Accepted(ScreenValues),
-    Refused(u32, usize),
+    Refused(u32, u64),
 }

@@ -5,7 +5,7 @@ ghost use Prim.Native.Nat.{_≤_};
 ghost use Rattle.record.specs.Record.{recordsOf};
 ghost use Rattle.blit.specs.Words.{wordsAcross};
 ghost use Rattle.chip.specs.Register.{listed, fits, screenAfter, blitAfter};
-ghost use Rattle.chip.specs.Start.{operation, rasterCode, bytesOf, sourceOf, destinationOf, lineOf, widthOf, heightOf, foregroundOf, startable, span, forward, backward, within};
+ghost use Rattle.chip.specs.Start.{operation, rasterCode, bytesOf, sourceOf, destinationOf, lineOf, widthOf, heightOf, foregroundOf, byBlit, sourceFits, startable, span, forward, backward, within};
 ghost use Rattle.chip.specs.Admit.{isData, starts, refusal, dueAfter, dueOf, chipAfter};
 ghost use Rattle.chip.specs.Play.{newChip, run};
 ghost use Rattle.record.specs.Checks.{firstOf, row};
@@ -26,12 +26,6 @@ fn choose(t: bool, a: u32, b: u32) -> u32
 }
 
 fn choose_wide(t: bool, a: u64, b: u64) -> u64
-    ensures { λ r. ⌜ r ≡ cond t a b ⌝ }
-{
-    if t { a } else { b }
-}
-
-fn choose_flag(t: bool, a: bool, b: bool) -> bool
     ensures { λ r. ⌜ r ≡ cond t a b ⌝ }
 {
     if t { a } else { b }
@@ -176,18 +170,35 @@ fn span_of(b: Registers) -> u64
     lines + pixels
 }
 
+// A flag for each operation of the model, and one for any other number.
+fn by_blit(operation: u32, write: bool, up: bool, down: bool, fill: bool, other: bool) -> bool
+    ensures { λ r. ⌜ r ≡ byBlit operation write up down fill other ⌝ }
+{
+    match operation {
+        0 => write,
+        2 => up,
+        3 => down,
+        0xC => fill,
+        _ => other,
+    }
+}
+
+// What is asked of the source address.
+fn source_fits(b: Registers) -> bool
+    ensures { λ r. ⌜ r ≡ sourceFits b ⌝ }
+{
+    let source = source_of(b) as u64;
+    let whole = source % bytes_of(b) == 0;
+    by_blit(operation_of(b), source == 0, whole, whole, true, false)
+}
+
 // Refusal 21: whether the model has an operation for the start.
 fn is_startable(b: Registers) -> bool
     ensures { λ r. ⌜ r ≡ startable b ⌝ }
 {
-    let operation = operation_of(b);
-    let bytes = bytes_of(b);
-    let source = source_of(b) as u64;
+    let fits = source_fits(b);
     let destination = destination_of(b) as u64;
-    let moves = (operation == 2) | (operation == 3);
-    let known = moves | ((operation == 0) | (operation == 0xC));
-    let bare = (operation != 0) | (source == 0);
-    known & ((destination % bytes == 0) & ((!moves | (source % bytes == 0)) & bare))
+    fits & (destination % bytes_of(b) == 0)
 }
 
 // Whether all bytes from an address on lie in the memory.
@@ -210,13 +221,12 @@ fn fits_backward(memory: u64, b: Registers, address: u32) -> bool
 fn is_within(memory: u64, b: Registers) -> bool
     ensures { λ r. ⌜ r ≡ within memory b ⌝ }
 {
-    let operation = operation_of(b);
     let source = source_of(b);
     let destination = destination_of(b);
+    let up = fits_forward(memory, b, destination);
+    let both = up & fits_forward(memory, b, source);
     let down = fits_backward(memory, b, destination) & fits_backward(memory, b, source);
-    let up = fits_forward(memory, b, destination)
-        & ((operation != 2) | fits_forward(memory, b, source));
-    choose_flag(operation == 3, down, up)
+    by_blit(operation_of(b), up, both, down, up, true)
 }
 
 // 8000h with bit 0 set.
@@ -380,7 +390,7 @@ pub fn check(memory: u64, stream: &[u8]) -> Run
         if number != 0 {
             return Run {
                 number,
-                place: i,
+                place: i as u64,
                 chip,
             };
         }

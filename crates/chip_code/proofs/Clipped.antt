@@ -6,27 +6,27 @@ use native.Mathlib.Numerals.{add-one}
 use native.Mathlib.Omega.{arith}
 use lib.ListN.{getD, set}
 use Rattle.pixel.specs.Pixel.{getPixel, putPixel}
-use Rattle.pixel.specs.Raster.{raster}
 use Rattle.pixel.proofs.Pixels.{get-is-one, get-is-two, put-is-one, put-is-two}
 use Rattle.blit.specs.Blit.{pixels}
+use Rattle.blit.specs.Job.{mixOf}
+use Rattle.blit.specs.declared.Mix.{Mix}
+use Rattle.blit.specs.declared.Mix.the-variants.{Raster}
 use Rattle.blit.specs.Words.{perWord, wordPixel, chipWord}
 use Rattle.blit.proofs.Words.{put-is-word}
-use Rattle.chip.specs.Start.{rasterCode, bytesOf, lineOf, widthOf, destinationOf, writeOf}
+use Rattle.chip.specs.Start.{bytesOf, lineOf, widthOf, destinationOf, rasterCode, writeOf}
 use Rattle.chip.specs.declared.Registers.{Registers}
 
 -- ---- one pixel
 
-pub drawn-one : (n a code p x v : ℕ) (m : List ℕ) → n ≡ 1 → x ≡ getD m a 0 → v ≡ raster 8 code p x
-    → set m a (v % 256) ≡ putPixel n m a (raster (8 * n) code p (getPixel n m a))
-drawn-one n a code p x v m e h k =
-    put-is-one n m a v e
-    ∙ ap (putPixel n m a) (k ∙ (λ t. raster (8 * sym e t) code p x) ∙ ap (raster (8 * n) code p) (get-is-one n m a x e h))
+module _ (n a : ℕ) (mix : Mix) (p v : ℕ) (m : List ℕ) where
+  pub drawn-one : (x : ℕ) → n ≡ 1 → x ≡ getD m a 0 → v ≡ mixOf mix n p x → set m a (v % 256) ≡ putPixel n m a (mixOf mix n p (getPixel n m a))
+  drawn-one x e h k = put-is-one n m a v e ∙ ap (putPixel n m a) (k ∙ ap (mixOf mix n p) (get-is-one n m a x e h))
 
-pub drawn-two : (n a code p x y v : ℕ) (m m′ : List ℕ) → n ≡ 2 → x ≡ getD m a 0 → y ≡ getD m (a + 1) 0 → v ≡ raster 16 code p (x + 256 * y)
-    → m′ ≡ set m a (v % 256) → set m′ (a + 1) (v / 256 % 256) ≡ putPixel n m a (raster (8 * n) code p (getPixel n m a))
-drawn-two n a code p x y v m m′ e h g k s =
-    ap (λ (l : List ℕ). set l (a + 1) (v / 256 % 256)) s ∙ put-is-two n m a v e
-    ∙ ap (putPixel n m a) (k ∙ (λ t. raster (8 * sym e t) code p (x + 256 * y)) ∙ ap (raster (8 * n) code p) (get-is-two n m a x y e h g))
+  pub drawn-two : (x y : ℕ) (m′ : List ℕ) → n ≡ 2 → x ≡ getD m a 0 → y ≡ getD m (a + 1) 0 → v ≡ mixOf mix n p (x + 256 * y)
+      → m′ ≡ set m a (v % 256) → set m′ (a + 1) (v / 256 % 256) ≡ putPixel n m a (mixOf mix n p (getPixel n m a))
+  drawn-two x y m′ e h g k s =
+      ap (λ (l : List ℕ). set l (a + 1) (v / 256 % 256)) s ∙ put-is-two n m a v e
+      ∙ ap (putPixel n m a) (k ∙ ap (mixOf mix n p) (get-is-two n m a x y e h g))
 
 -- ---- the pixels of a word
 
@@ -65,26 +65,26 @@ word-bits n v i =
 -- ---- a run of pixels
 
 -- the first i pixels of a word, from address a on
-abbrev pub wordPixels : ℕ → ℕ → ℕ → ℕ → ℕ → List ℕ → List ℕ
-wordPixels n code a w i m = pixels n (λ s d. raster (8 * n) code s d) (λ k. a + k * n) (λ x k. wordPixel n w k) i m
+abbrev pub wordPixels : ℕ → Mix → ℕ → ℕ → ℕ → List ℕ → List ℕ
+wordPixels n mix a w i m = pixels n (mixOf mix n) (λ k. a + k * n) (λ x k. wordPixel n w k) i m
 
-pub none-drawn : (n code a w : ℕ) (m : List ℕ) → m ≡ wordPixels n code a w 0 m
+pub none-drawn : (n : ℕ) (mix : Mix) (a w : ℕ) (m : List ℕ) → m ≡ wordPixels n mix a w 0 m
 unfolding pixels
-none-drawn n code a w m = refl
+none-drawn n mix a w m = refl
 
-pub one-more : (n code a w i p : ℕ) (m₀ m : List ℕ) → m ≡ wordPixels n code a w i m₀ → p ≡ wordPixel n w i
-    → putPixel n m (a + i * n) (raster (8 * n) code p (getPixel n m (a + i * n))) ≡ wordPixels n code a w (i + 1) m₀
+pub one-more : (n : ℕ) (mix : Mix) (a w i p : ℕ) (m₀ m : List ℕ) → m ≡ wordPixels n mix a w i m₀ → p ≡ wordPixel n w i
+    → putPixel n m (a + i * n) (mixOf mix n p (getPixel n m (a + i * n))) ≡ wordPixels n mix a w (i + 1) m₀
 unfolding pixels
-one-more n code a w i p m₀ m e h =
-    (λ t. putPixel n (e t) (a + i * n) (raster (8 * n) code (h t) (getPixel n (e t) (a + i * n))))
-    ∙ ap (λ (k : ℕ). wordPixels n code a w k m₀) (sym (add-one i))
+one-more n mix a w i p m₀ m e h =
+    (λ t. putPixel n (e t) (a + i * n) (mixOf mix n (h t) (getPixel n (e t) (a + i * n))))
+    ∙ ap (λ (k : ℕ). wordPixels n mix a w k m₀) (sym (add-one i))
 
 -- the pixels that a data word has in its line
-pub word-written : (b : Registers) (j t n code a count w v : ℕ) (m : List ℕ) → n ≡ bytesOf b → code ≡ rasterCode b
+pub word-written : (b : Registers) (j t n : ℕ) (mix : Mix) (a count w v : ℕ) (m : List ℕ) → n ≡ bytesOf b → mix ≡ Raster (rasterCode b)
     → a ≡ destinationOf b + (j * lineOf b + t * (2 / bytesOf b) * bytesOf b) → count ≡ min (2 / bytesOf b) (widthOf b - t * (2 / bytesOf b))
-    → w ≡ v % 65536 → wordPixels n code a w count m ≡ chipWord (writeOf b (λ i k. 0)) j t v m
+    → w ≡ v % 65536 → wordPixels n mix a w count m ≡ chipWord (writeOf b (λ i k. 0)) j t v m
 unfolding writeOf
-word-written b j t n code a count w v m en ec ea ek ew =
+word-written b j t n mix a count w v m en ec ea ek ew =
     (λ x. wordPixels (en x) (ec x) a (ew x) count m)
-    ∙ (λ x. pixels (bytesOf b) (λ s d. raster (8 * bytesOf b) (rasterCode b) s d) (λ k. a + k * bytesOf b) (λ y k. word-bits (bytesOf b) v k x) count m)
+    ∙ (λ x. pixels (bytesOf b) (mixOf (Raster (rasterCode b)) (bytesOf b)) (λ k. a + k * bytesOf b) (λ y k. word-bits (bytesOf b) v k x) count m)
     ∙ put-is-word (writeOf b (λ i k. 0)) j t a count ea ek v m

@@ -1,20 +1,21 @@
 -- A started blit as crate `blit_code` takes it: its limits, and that it is what the registers say.
 use Prim.Native.Nat.{ℕ, zero, suc, _+_, _-_, _*_, _%_, _≤_, _<_}
 use mathlib.Core.Path.{_≡_, refl, sym, ap, _∙_}
-use mathlib.Core.Bool.{Bool, true, false, not, _&&_, _||_, cond}
+use mathlib.Core.Bool.{Bool, true, false, cond}
+use mathlib.Core.Logic.{_⊎_, ⊎-elim}
 use mathlib.Core.List.{List}
 use native.Mathlib.Nat.{suc-mul}
 use native.Mathlib.Numerals.{add-one}
 use native.Mathlib.Omega.{arith}
 use lib.Dec.{eqb, leb}
-use borrow.Author.Tests.{eqb-true, eqb-false, leb-true}
-use Rattle.record.proofs.Choice.{and-left, and-right, or-elim}
-use Rattle.blit.specs.Blit.{towards, chipBlit}
-use Rattle.blit_code.specs.Job.{blitOf, LineIn, SourceIn, JobOk}
-use Rattle.blit_code.specs.declared.From.the-variants.{Colour, Memory}
-use Rattle.chip.specs.Start.{operation, bytesOf, lineOf, widthOf, heightOf, sourceOf, destinationOf, foregroundOf, isMove, isKnown, wholeAt, startable, span, forward, backward, within, fillOf, moveOf, started}
-use Rattle.chip_code.specs.Jobs.{jobBy, jobOf}
+use borrow.Author.Tests.{eqb-true, ne-eqb, leb-true}
+use Rattle.record.proofs.Choice.{and-left, and-right}
+use Rattle.blit.specs.Job.{performed, LineIn, SourceIn, JobOk}
+use Rattle.blit.specs.declared.Mix.the-variants.{Store, Raster}
+use Rattle.blit.specs.declared.From.the-variants.{Colour, Memory}
+use Rattle.chip.specs.Start.{operation, rasterCode, bytesOf, lineOf, widthOf, heightOf, sourceOf, destinationOf, foregroundOf, wholeAt, sourceFits, startable, span, forward, backward, within, mixBy, fromBy, jobOf, started}
 use Rattle.chip.specs.declared.Registers.{Registers}
+use Rattle.chip.proofs.Starts.{operations}
 
 -- ---- the limits of a started blit
 
@@ -48,53 +49,40 @@ module _ (m : ℕ) (b : Registers) where
   )
   reach false a e = line-up (b .height % 1024) (lineOf b) (b .width % 1024) (bytesOf b) a m (leb-true _ _ e)
 
-  destination-in : (down u : Bool) (d s : ℕ) → cond down (backward m b d && backward m b s) (forward m b d && (u || forward m b s)) ≡ true
-      → cond down (backward m b d) (forward m b d) ≡ true
-  destination-in true u d s e = and-left (backward m b d) (backward m b s) e
-  destination-in false u d s e = and-left (forward m b d) (u || forward m b s) e
+  -- a startable blit that lies in the memory: its destination, and a move's source on whole pixels
+  module _ (can : startable b ≡ true) (inside : within m b ≡ true) where
+    to-in : LineIn (eqb (operation b) 3) (bytesOf b) (lineOf b) (widthOf b) (destinationOf b) m (heightOf b - 1)
+    unfolding within
+    to-in =
+        operations b can
+        (λ e. rw e (reach false (destinationOf b) (rw e at inside)))
+        (λ e. rw e (reach false (destinationOf b) (and-left (forward m b (destinationOf b)) (forward m b (sourceOf b)) (rw e at inside))))
+        (λ e. rw e (reach true (destinationOf b) (and-left (backward m b (destinationOf b)) (backward m b (sourceOf b)) (rw e at inside))))
+        (λ e. rw e (reach false (destinationOf b) (rw e at inside)))
 
-  source-in : (down u : Bool) (d s : ℕ) → cond down (backward m b d && backward m b s) (forward m b d && (u || forward m b s)) ≡ true
-      → (down ≡ false → u ≡ false) → cond down (backward m b s) (forward m b s) ≡ true
-  source-in true u d s e f = and-right (backward m b d) (backward m b s) e
-  source-in false true d s e f = absurd (eqb-false 1 0 refl (ap (λ (t : Bool). cond t 1 0) (f refl)))
-  source-in false false d s e f = and-right (forward m b d) (forward m b s) e
+    from-in : SourceIn (fromBy b) (eqb (operation b) 3) (bytesOf b) (lineOf b) (widthOf b) m (heightOf b - 1)
+    unfolding startable sourceFits within fromBy
+    from-in =
+        operations b can
+        (λ e. rw e refl)
+        (λ e. rw e (
+          reach false (sourceOf b) (and-right (forward m b (destinationOf b)) (forward m b (sourceOf b)) (rw e at inside)),
+          eqb-true _ _ (and-left (wholeAt b (sourceOf b)) (wholeAt b (destinationOf b)) (rw e at can)),
+        ))
+        (λ e. rw e (
+          reach true (sourceOf b) (and-right (backward m b (destinationOf b)) (backward m b (sourceOf b)) (rw e at inside)),
+          eqb-true _ _ (and-left (wholeAt b (sourceOf b)) (wholeAt b (destinationOf b)) (rw e at can)),
+        ))
+        (λ e. rw e refl)
 
-  -- a fill goes up through the memory; a move's source lies there on whole pixels
-  source-ok : (fills down : Bool) (n l w f s j : ℕ) → (fills ≡ true → down ≡ false) → (fills ≡ false → LineIn down n l w s m j × (s % n ≡ 0))
-      → SourceIn (cond fills (Colour f) (Memory s)) down n l w m j
-  source-ok true down n l w f s j p q = p refl
-  source-ok false down n l w f s j p q = q refl
-
-  -- what a startable operation is
-  pub operations : {P : Type 0} → startable b ≡ true → (operation b ≡ 0 → P) → (operation b ≡ 2 → P) → (operation b ≡ 3 → P) → (operation b ≡ 0xC → P) → P
-  unfolding startable
-  operations h p0 p2 p3 pc =
-      or-elim (isMove b) (eqb (operation b) 0 || eqb (operation b) 0xC) (and-left (isKnown b) _ h)
-      (λ e. or-elim (eqb (operation b) 2) (eqb (operation b) 3) e (λ x. p2 (eqb-true _ _ x)) (λ x. p3 (eqb-true _ _ x)))
-      (λ e. or-elim (eqb (operation b) 0) (eqb (operation b) 0xC) e (λ x. p0 (eqb-true _ _ x)) (λ x. pc (eqb-true _ _ x)))
-
-  -- a startable fill or move that lies in the memory keeps to the limits
-  module _ (few : m ≤ 262144) (can : startable b ≡ true) (inside : within m b ≡ true) where
     whole-destination : destinationOf b % bytesOf b ≡ 0
     unfolding startable
-    whole-destination = eqb-true _ _ (and-left (wholeAt b (destinationOf b)) _ (and-right (isKnown b) _ can))
+    whole-destination = eqb-true _ _ (and-right (sourceFits b) (wholeAt b (destinationOf b)) can)
 
-    whole-source : isMove b ≡ true → sourceOf b % bytesOf b ≡ 0
-    unfolding startable
-    whole-source e =
-        eqb-true _ _ (or-second (isMove b) (wholeAt b (sourceOf b)) e (and-left _ _ (and-right (wholeAt b (destinationOf b)) _ (and-right (isKnown b) _ can))))
-      where
-        or-second : (a x : Bool) → a ≡ true → (not a || x) ≡ true → x ≡ true
-        or-second true x h p = p
-        or-second false x h p = absurd (eqb-false 0 1 refl (ap (λ (t : Bool). cond t 1 0) h))
-
-    within-is : cond (eqb (operation b) 3) (backward m b (destinationOf b) && backward m b (sourceOf b)) (forward m b (destinationOf b) && (not (eqb (operation b) 2) || forward m b (sourceOf b))) ≡ true
-    unfolding within
-    within-is = inside
-
-    pub job-ok : (fills : Bool) → (fills ≡ true → eqb (operation b) 3 ≡ false) → (fills ≡ false → isMove b ≡ true) → JobOk m (jobBy fills (eqb (operation b) 3) b)
-    job-ok fills p q =
-        let down : Bool = eqb (operation b) 3 in
+    -- it keeps to the limits
+    pub job-limits : m ≤ 262144 → JobOk m (jobOf b)
+    unfolding jobOf
+    job-limits few =
         record {
           some-bytes = omega arith;
           few-bytes = omega arith;
@@ -105,31 +93,46 @@ module _ (m : ℕ) (b : Registers) where
           height = omega arith;
           even = whole-destination;
           memory = few;
-          destination = reach down (destinationOf b) (destination-in down (not (eqb (operation b) 2)) (destinationOf b) (sourceOf b) within-is);
-          source =
-              source-ok fills down (bytesOf b) (lineOf b) (widthOf b) (foregroundOf b) (sourceOf b) (heightOf b - 1) p
-              (λ e. (
-                reach down (sourceOf b) (source-in down (not (eqb (operation b) 2)) (destinationOf b) (sourceOf b) within-is
-                    (λ x. ap not (second (eqb (operation b) 2) down x (q e)))),
-                whole-source (q e),
-              ));
+          destination = to-in;
+          source = from-in;
         }
-      where
-        second : (t u : Bool) → u ≡ false → (t || u) ≡ true → t ≡ true
-        second true u x y = refl
-        second false u x y = sym x ∙ y
 
 -- ---- the started blit as a job
 
-module _ (b : Registers) (can : startable b ≡ true) (some : operation b ≡ 0 → ⊥) where
-  pub job-limits : (m : ℕ) → m ≤ 262144 → within m b ≡ true → JobOk m (jobOf b)
-  unfolding jobOf
-  job-limits m few inside =
-      job-ok m b few can inside (eqb (operation b) 0xC) (λ x. ap (λ (n : ℕ). eqb n 3) (eqb-true (operation b) 0xC x))
-      (λ x. operations m b can (λ e. absurd (some e)) (λ e. ap (λ (n : ℕ). eqb n 2 || eqb n 3) e) (λ e. ap (λ (n : ℕ). eqb n 2 || eqb n 3) e)
-      (λ e. absurd (eqb-false (operation b) 0xC x e)))
+pub job-started : (b : Registers) → startable b ≡ true → (operation b ≡ 0 → ⊥) → (old : List ℕ) → performed (jobOf b) old ≡ started b old
+unfolding started
+job-started b can some old = operations b can (λ e. absurd (some e)) (λ e. rw e) (λ e. rw e) (λ e. rw e)
 
-  pub job-started : (old : List ℕ) → chipBlit (blitOf (jobOf b)) (towards (jobOf b .down)) old ≡ started b old
-  unfolding jobOf blitOf started fillOf moveOf
-  job-started old =
-      operations 0 b can (λ e. absurd (some e)) (λ e. rw e) (λ e. rw e) (λ e. rw e)
+-- ---- the registers' mix and source, by a number n that is the operation
+
+same : {A : Type 0} (t : Bool) (x : A) → x ≡ cond t x x
+same true x = refl
+same false x = refl
+
+module _ (b : Registers) (n : ℕ) (is : n ≡ operation b) where
+  yes : (k : ℕ) → n ≡ k → operation b ≡ k
+  yes k e = sym is ∙ e
+
+  other : (k : ℕ) → (n ≡ k → ⊥) → eqb (operation b) k ≡ false
+  other k f = ne-eqb (operation b) k (λ e. f (is ∙ e))
+
+  pub mix-combines : (code : ℕ) → code ≡ rasterCode b → (n ≡ 0) ⊎ ((n ≡ 2) ⊎ (n ≡ 3)) → Raster code ≡ mixBy b
+  unfolding mixBy
+  mix-combines code e h =
+      ap (λ (x : ℕ). Raster x) e ∙ ⊎-elim (λ x. rw (yes 0 x)) (λ y. ⊎-elim (λ x. rw (yes 2 x)) (λ x. rw (yes 3 x)) y) h
+
+  pub mix-stores : (n ≡ 0 → ⊥) → (n ≡ 2 → ⊥) → (n ≡ 3 → ⊥) → Store ≡ mixBy b
+  unfolding mixBy
+  mix-stores no-0 no-2 no-3 = rw (other 0 no-0, other 2 no-2, other 3 no-3) (same (eqb (operation b) 0xC) Store)
+
+  pub from-memory : (source : ℕ) → source ≡ sourceOf b → (n ≡ 2) ⊎ (n ≡ 3) → Memory source ≡ fromBy b
+  unfolding fromBy
+  from-memory source e h = ap (λ (x : ℕ). Memory x) e ∙ ⊎-elim (λ x. rw (yes 2 x)) (λ x. rw (yes 3 x)) h
+
+  pub from-colour : (colour : ℕ) → colour ≡ foregroundOf b → n ≡ 0xC → Colour colour ≡ fromBy b
+  unfolding fromBy
+  from-colour colour e h = ap (λ (x : ℕ). Colour x) e ∙ rw (yes 0xC h)
+
+  pub from-none : (n ≡ 2 → ⊥) → (n ≡ 3 → ⊥) → (n ≡ 0xC → ⊥) → Colour 0 ≡ fromBy b
+  unfolding fromBy
+  from-none no-2 no-3 no-12 = rw (other 2 no-2, other 3 no-3, other 0xC no-12) (same (eqb (operation b) 0) (Colour 0))

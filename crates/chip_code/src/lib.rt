@@ -1,21 +1,20 @@
 // Playing a stream over a lent display memory: what each record does to it.
 ghost use mathlib.Core.Path.{_≡_};
-ghost use mathlib.Core.Bool.{true, cond};
-ghost use Prim.Native.Nat.{_+_, _*_, _^_, _≤_, _<_, min};
+ghost use mathlib.Core.Bool.{true};
+ghost use Prim.Native.Nat.{_+_, _*_, _^_, _≤_, _<_};
 ghost use lib.ListN.{length, getD, set};
 ghost use Rattle.pixel.specs.Pixel.{getPixel, putPixel};
-ghost use Rattle.pixel.specs.Raster.{raster};
 ghost use Rattle.record.specs.Record.{recordsOf};
 ghost use Rattle.blit.specs.Blit.{pixels};
+ghost use Rattle.blit.specs.Job.{mixOf};
 ghost use Rattle.blit.specs.Words.{perWord, wordPixel, chipWord};
 ghost use Rattle.screen.specs.Screen.{memorySize};
-ghost use Rattle.chip.specs.Start.{startable, within, writeOf, started};
-ghost use Rattle.chip_code.specs.Jobs.{jobOf};
+ghost use Rattle.chip.specs.Start.{startable, within, mixBy, fromBy, jobOf, writeOf, started};
 ghost use Rattle.chip.specs.Admit.{refusal, effect};
 ghost use Rattle.chip.specs.Play.{newChip, run, applied, playing, played, playingOf, answerOf};
-use blit_code::From;
-use blit_code::Job;
-use blit_code::Mix;
+use blit::From;
+use blit::Job;
+use blit::Mix;
 use chip::Chip;
 use chip::Due;
 use chip::Played;
@@ -25,45 +24,47 @@ use record::Record;
 // Bytes of display memory of the S1D13A05.
 const MEMORY_SIZE: u64 = 262144;
 
-// One of two values, by a test.
-fn choose_mix(t: bool, a: Mix, b: Mix) -> Mix
-    ensures { λ r. ⌜ r ≡ cond t a b ⌝ }
+// What source and destination pixel make.
+fn mix_by(b: Registers) -> Mix
+    ensures { λ r. ⌜ r ≡ mixBy b ⌝ }
 {
-    if t { a } else { b }
+    let operation = chip_admit::operation_of(b);
+    let code = chip_admit::raster_code(b);
+    match operation {
+        0 => Mix::Raster(code),
+        2 => Mix::Raster(code),
+        3 => Mix::Raster(code),
+        _ => Mix::Store,
+    }
 }
 
-fn choose_from(t: bool, a: From, b: From) -> From
-    ensures { λ r. ⌜ r ≡ cond t a b ⌝ }
+// Where the source pixels of a move or a fill are.
+fn from_by(b: Registers) -> From
+    ensures { λ r. ⌜ r ≡ fromBy b ⌝ }
 {
-    if t { a } else { b }
+    let operation = chip_admit::operation_of(b);
+    let source = chip_admit::source_of(b);
+    let colour = chip_admit::foreground_of(b);
+    match operation {
+        2 => From::Memory(source),
+        3 => From::Memory(source),
+        0xC => From::Colour(colour),
+        _ => From::Colour(0),
+    }
 }
 
-// The lesser of two numbers.
-fn least(a: u64, b: u64) -> u64
-    ensures { λ r. ⌜ r ≡ min a b ⌝ }
-{
-    if a <= b { a } else { b }
-}
-
-// The fill or move that the registers name.
+// The blit that the registers name.
 fn job_of(b: Registers) -> Job
     ensures { λ r. ⌜ r ≡ jobOf b ⌝ }
 {
-    let operation = chip_admit::operation_of(b);
-    let fills = operation == 0xC;
-    let code = chip_admit::raster_code(b);
-    let colour = chip_admit::foreground_of(b);
-    let source = chip_admit::source_of(b);
-    let mix = choose_mix(fills, Mix::Store, Mix::Raster(code));
-    let from = choose_from(fills, From::Colour(colour), From::Memory(source));
     Job {
-        down: operation == 3,
+        down: chip_admit::operation_of(b) == 3,
         bytes: chip_admit::bytes_of(b) as usize,
         line: chip_admit::line_of(b) as usize,
         width: chip_admit::width_of(b) as usize,
         height: chip_admit::height_of(b) as usize,
-        mix,
-        from,
+        mix: mix_by(b),
+        from: from_by(b),
         destination: chip_admit::destination_of(b),
     }
 }
@@ -100,19 +101,19 @@ fn store_byte(memory: &mut [u8], at: usize, value: u8)
     memory[at] = value;
 }
 
-// One pixel under a raster code. A byte past the end reads 0 and is not stored.
-fn draw_clipped(bytes: usize, code: u8, at: usize, pixel: u16, memory: &mut [u8])
+// One pixel, mixed with what stands there. A byte past the end reads 0 and is not stored.
+fn draw_clipped(bytes: usize, mix: Mix, at: usize, pixel: u16, memory: &mut [u8])
     requires { ⌜ (0 < bytes) × (bytes ≤ 2) × (at < 2 ^ 40) ⌝ }
-    ensures { λ _. ⌜ now (memory .exit) ≡ putPixel bytes (now (memory .entry)) at (raster (8 * bytes) code pixel (getPixel bytes (now (memory .entry)) at)) ⌝ }
+    ensures { λ _. ⌜ now (memory .exit) ≡ putPixel bytes (now (memory .entry)) at (mixOf mix bytes pixel (getPixel bytes (now (memory .entry)) at)) ⌝ }
 {
     let low = byte_at(memory, at);
     if bytes == 1 {
-        let v = pixel_code::combine(8, code, pixel, low);
+        let v = blit_line::mixed_pixel(mix, bytes, pixel, low);
         store_byte(memory, at, (v % 256) as u8);
         return;
     }
     let high = byte_at(memory, at + 1);
-    let v = pixel_code::combine(16, code, pixel, low + 256 * high);
+    let v = blit_line::mixed_pixel(mix, bytes, pixel, low + 256 * high);
     store_byte(memory, at, (v % 256) as u8);
     store_byte(memory, at + 1, (v / 256 % 256) as u8);
 }
@@ -132,14 +133,14 @@ fn word_pixel(bytes: usize, word: u16, i: usize) -> u16
 }
 
 // The first pixels of a word, drawn from an address on that the memory may not have.
-fn write_clipped(bytes: usize, code: u8, at: usize, count: usize, word: u16, memory: &mut [u8])
+fn write_clipped(bytes: usize, mix: Mix, at: usize, count: usize, word: u16, memory: &mut [u8])
     requires { ⌜ (0 < bytes) × (bytes ≤ 2) × (count ≤ perWord bytes) × (at < 2 ^ 32) ⌝ }
-    ensures { λ _. ⌜ now (memory .exit) ≡ pixels bytes (λ s d. raster (8 * bytes) code s d) (λ i. at + i * bytes) (λ m i. wordPixel bytes word i) count (now (memory .entry)) ⌝ }
+    ensures { λ _. ⌜ now (memory .exit) ≡ pixels bytes (mixOf mix bytes) (λ i. at + i * bytes) (λ m i. wordPixel bytes word i) count (now (memory .entry)) ⌝ }
 {
     let mut i = 0;
     while i < count {
         let pixel = word_pixel(bytes, word, i);
-        draw_clipped(bytes, code, at + i * bytes, pixel, memory);
+        draw_clipped(bytes, mix, at + i * bytes, pixel, memory);
         i += 1;
     }
 }
@@ -153,7 +154,7 @@ fn write_word(b: Registers, d: Due, value: u32, memory: &mut [u8])
     let per = 2 / bytes;
     let first = d.word as u64 * per;
     let left = record_code::minus(chip_admit::width_of(b), first);
-    let count = least(per, left) as usize;
+    let count = record_code::least(per as usize, left as usize);
     let at = (chip_admit::destination_of(b) as u64
         + (d.line as u64 * chip_admit::line_of(b) + first * bytes)) as usize;
     let size = bytes as usize;
@@ -164,7 +165,7 @@ fn write_word(b: Registers, d: Due, value: u32, memory: &mut [u8])
         blit_code::put_word(size, Mix::Raster(code), at, count, word, memory);
         return;
     }
-    write_clipped(size, code, at, count, word, memory);
+    write_clipped(size, Mix::Raster(code), at, count, word, memory);
 }
 
 // What a record that is not refused does to the memory, of any chip.
@@ -224,7 +225,7 @@ pub fn play(stream: &[u8], memory: &mut [u8]) -> Played
     let chip = r.chip;
     let due = chip.due;
     if due.any {
-        return Played::Refused(23, stream.len() / 8);
+        return Played::Refused(23, stream.len() as u64 / 8);
     }
     perform_all(stream, memory);
     let screen = chip.screen;

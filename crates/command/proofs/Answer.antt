@@ -1,21 +1,51 @@
 -- The answer to a command record, and its number.
 use Prim.Native.Nat.{ℕ, _<_}
-use mathlib.Core.Path.{_≡_, refl, sym}
-use mathlib.Core.List.{List}
-use mathlib.Core.Bool.{Bool, true, false, cond}
+use mathlib.Core.Path.{_≡_, refl, sym, ap, _∙_}
+use mathlib.Core.List.{List, [], _∷_}
+use mathlib.Core.Bool.{Bool, true, false, not, _&&_, _||_, cond, and-true}
 use native.Mathlib.Omega.{arith}
-use lib.Dec.{eqb, lit<}
+use lib.Dec.{eqb, ltb, lit<}
 use borrow.Author.Tests.{eqb-true, eqb-false, eq-eqb, ne-eqb}
-use Rattle.record.specs.Checks.{Numbered}
+use Rattle.record.specs.Bytes.{allZero}
+use Rattle.record.specs.Checks.{rowsWith, Numbered}
+use Rattle.screen.specs.declared.Image.{Image}
 use Rattle.screen.specs.declared.Screen.{Screen}
-use Rattle.command.specs.Command.{commandOf, commandRows, refusal, commandAnswer, numberOf}
+use Rattle.command.specs.Command.{commandOf, surfaceOf, mustBeZero, formed, insideImage, placed, wordsTaken, commandRows, refusal, commandAnswer, numberOf}
 use Rattle.command.specs.declared.Command.{Command}
 use Rattle.command.specs.declared.CommandAnswer.the-variants.{Accepted, Refused}
+use Rattle.command.proofs.Operation.{by-fill, by-move, by-other, unless-move}
 
 -- 0 is the number of no row
 pub command-numbered : (s : Screen) (left : ℕ) (b : List ℕ) (c : Command) → Numbered (commandRows s left b c)
 unfolding commandRows Numbered
 command-numbered s left b c = (lit< tt, (lit< tt, (lit< tt, (lit< tt, tt))))
+
+-- ---- the rows from what the checks found
+-- row 12: the fields that must be zero
+module _ (c : Command) where
+  pub fill-zero : c .operation ≡ 0 → (eqb (c .raster) 0 && (eqb (c .sx) 0 && eqb (c .sy) 0)) ≡ allZero (mustBeZero c)
+  unfolding mustBeZero allZero
+  fill-zero e = sym (ap allZero (by-fill (c .operation) _ _ _ e) ∙ (rw and-true))
+
+  pub move-zero : c .operation ≡ 1 → eqb (c .colour) 0 ≡ allZero (mustBeZero c)
+  unfolding mustBeZero allZero
+  move-zero e = sym (ap allZero (by-move (c .operation) _ _ _ e) ∙ (rw and-true))
+
+  pub write-zero : (c .operation ≡ 0 → ⊥) → (c .operation ≡ 1 → ⊥) → (eqb (c .sx) 0 && (eqb (c .sy) 0 && eqb (c .colour) 0)) ≡ allZero (mustBeZero c)
+  unfolding mustBeZero allZero
+  write-zero h k = sym (ap allZero (by-other (c .operation) _ _ _ h k) ∙ (rw and-true))
+
+-- row 14: both rectangles
+pub placed-is : (s : Screen) (c : Command) (i : Image) (destination source : Bool) → i ≡ surfaceOf s c → destination ≡ insideImage i (c .x) (c .y) (c .width) (c .height) → source ≡ insideImage i (c .sx) (c .sy) (c .width) (c .height)
+    → (destination && (not (eqb (c .operation) 1) || source)) ≡ placed s c
+unfolding placed
+placed-is s c i destination source e f g = rw (f, g, e, ← unless-move)
+
+-- all rows
+pub rows-are : (s : Screen) (left : ℕ) (b : List ℕ) (c : Command) (f p : Bool) (w : ℕ) → f ≡ formed s b c → p ≡ placed s c → w ≡ wordsTaken s c
+    → rowsWith (12 ∷ 13 ∷ 14 ∷ 15 ∷ []) (not f ∷ (eqb (c .width) 0 || eqb (c .height) 0) ∷ not p ∷ ltb left w ∷ []) ≡ commandRows s left b c
+unfolding commandRows rowsWith
+rows-are s left b c f p w e g h = rw (e, g, h)
 
 answers : (t : Bool) (n : ℕ) (u c : Command) → cond t (Accepted u) (Refused n) ≡ Accepted c → (t ≡ true) × (c ≡ u)
 answers true n u c e = (refl, (cc))

@@ -2,13 +2,14 @@
 use Prim.Native.Nat.{ℕ}
 use mathlib.Core.Path.{_≡_, refl}
 use mathlib.Core.List.{List, [], _∷_, map}
-use lib.ListN.{set}
+use mathlib.Core.Bool.{true, false}
+use lib.ListN.{replicate, set}
 use Rattle.record.specs.Bytes.{allZero}
 use Rattle.record.specs.Checks.{firstOf}
 use Rattle.screen.specs.Screen.{viewWidth, viewHeight, mainImage, windowImage}
 use Rattle.screen.specs.declared.Screen.{Screen}
-use Rattle.command.specs.Command.{commandOf, surfaceOf, unusedZero, formed, insideImage, placed, lineWords, wordsTaken, commandRows, refusal, commandAnswer, numberOf}
-use Rattle.command.specs.Values.{addressOf, destinationOf, sourceOf, isNegative, lastColumn, lastLine, commandValue, sourceValue, destinationValue, controlValue, blitRegisters, blitValues}
+use Rattle.command.specs.Command.{commandOf, commandBytes, surfaceOf, mustBeZero, formed, insideImage, placed, lineWords, wordsTaken, commandRows, namesCommand, refusal, commandAnswer, numberOf}
+use Rattle.command.specs.Values.{addressOf, destinationOf, sourceOf, isNegative, lastColumn, lastLine, commandValue, sourceValue, destinationValue, controlValue, blitRegisters, uses, blitValues}
 use Rattle.command.specs.declared.Command.{Command}
 use Rattle.command.specs.declared.CommandAnswer.the-variants.{Accepted, Refused}
 
@@ -44,12 +45,25 @@ pub values-hold : (blitValues (screen 8 320 240) (command 0 0 0 10 20 100 150 0 
     × (blitValues (screen 8 8 1) (command 1 0 0xC 1 0 7 1 0 0 0) ≡ 0xC0003 ∷ 6 ∷ 7 ∷ 4 ∷ 6 ∷ 0 ∷ 0 ∷ 0 ∷ 1 ∷ [])
     × (blitValues (screen 8 8 4) (command 1 0 6 0 1 4 2 3 0 0) ≡ 0x60003 ∷ 14 ∷ 19 ∷ 4 ∷ 3 ∷ 1 ∷ 0 ∷ 0 ∷ 1 ∷ [])
     × (blitValues (screen 16 8 4) (command 2 1 0xC 2 1 3 2 0 0 0) ≡ 0xC0000 ∷ 0 ∷ 1044 ∷ 8 ∷ 2 ∷ 1 ∷ 0 ∷ 0 ∷ 0x40001 ∷ [])
+    × (blitValues (screen 16 8 4) (command 2 1 0xC 2 1 3 2 1 1 9) ≡ 0xC0000 ∷ 0 ∷ 1044 ∷ 8 ∷ 2 ∷ 1 ∷ 0 ∷ 0 ∷ 0x40001 ∷ [])
 unfolding viewWidth viewHeight mainImage windowImage surfaceOf addressOf destinationOf sourceOf isNegative lastColumn lastLine commandValue sourceValue destinationValue controlValue blitValues
-values-hold = (refl, refl, refl, refl)
+values-hold = (refl, refl, refl, refl, refl)
 
 -- the nine records of a command, in the stream's order
 pub registers-hold : blitRegisters ≡ 0x8008 ∷ 0x800C ∷ 0x8010 ∷ 0x8014 ∷ 0x8018 ∷ 0x801C ∷ 0x8020 ∷ 0x8024 ∷ 0x8000 ∷ []
 registers-hold = refl
+
+-- which of them a fill, a move and a write use
+pub used-hold : map (λ (o : ℕ). map (uses o) blitRegisters) (0 ∷ 1 ∷ 2 ∷ [])
+    ≡ (true ∷ false ∷ true ∷ true ∷ true ∷ true ∷ false ∷ true ∷ true ∷ [])
+    ∷ (true ∷ true ∷ true ∷ true ∷ true ∷ true ∷ false ∷ false ∷ true ∷ [])
+    ∷ (true ∷ true ∷ true ∷ true ∷ true ∷ true ∷ false ∷ false ∷ true ∷ [])
+    ∷ []
+used-hold = refl
+
+-- the numbers that name a command
+pub names-hold : map namesCommand (0 ∷ 11 ∷ 12 ∷ 13 ∷ 14 ∷ 15 ∷ 16 ∷ []) ≡ false ∷ false ∷ true ∷ true ∷ true ∷ true ∷ false ∷ []
+names-hold = refl
 
 -- a write of 3 by 2 pixels takes two words a line at depth 8, and three at 16; another command takes none
 pub words-hold : (wordsTaken (screen 8 8 4) (command 2 0 0xC 0 0 3 2 0 0 0) ≡ 4)
@@ -71,7 +85,7 @@ pub refusals-hold : (refusal (screen 8 8 4) 3 (bytes 0 0 0 8 4) ≡ 0)
     × (refusal (screen 8 8 4) 3 (bytes 2 1 0 8 4) ≡ 14)
     × (refusal (screen 8 8 4) 3 (bytes 2 0 0 3 2) ≡ 15)
     × (refusal (screen 8 8 4) 3 (bytes 2 0 0 6 1) ≡ 0)
-unfolding allZero firstOf viewWidth viewHeight mainImage windowImage surfaceOf commandOf unusedZero formed insideImage placed lineWords wordsTaken commandRows refusal
+unfolding allZero firstOf viewWidth viewHeight mainImage windowImage surfaceOf commandOf mustBeZero formed insideImage placed lineWords wordsTaken commandRows refusal
 refusals-hold = (refl, refl, refl, refl, refl, refl)
 
 -- the fields of a record whose bytes are their places
@@ -79,6 +93,12 @@ pub fields-hold : commandOf (0 ∷ 1 ∷ 2 ∷ 3 ∷ 4 ∷ 5 ∷ 6 ∷ 7 ∷ 8 �
     ≡ command 0 1 2 0x0504 0x0706 0x0908 0x0B0A 0x0D0C 0x0F0E 0x1110
 unfolding commandOf
 fields-hold = refl
+
+-- and the bytes of these fields
+pub bytes-hold : commandBytes (command 0 1 2 0x0504 0x0706 0x0908 0x0B0A 0x0D0C 0x0F0E 0x1110)
+    ≡ 0 ∷ 1 ∷ 2 ∷ 0 ∷ 4 ∷ 5 ∷ 6 ∷ 7 ∷ 8 ∷ 9 ∷ 10 ∷ 11 ∷ 12 ∷ 13 ∷ 14 ∷ 15 ∷ 16 ∷ 17 ∷ replicate 14 0
+unfolding commandBytes
+bytes-hold = refl
 
 -- the number of a record on that screen, with 100 host words left
 abbrev number : List ℕ → ℕ
@@ -107,7 +127,7 @@ pub form : map number (
     ∷ 12 ∷ 12 ∷ 12
     ∷ 12 ∷ 12 ∷ 12 ∷ 12 ∷ 12 ∷ 12 ∷ 12
     ∷ []
-unfolding allZero firstOf viewWidth viewHeight mainImage windowImage surfaceOf commandOf unusedZero formed insideImage placed lineWords wordsTaken commandRows refusal
+unfolding allZero firstOf viewWidth viewHeight mainImage windowImage surfaceOf commandOf mustBeZero formed insideImage placed lineWords wordsTaken commandRows refusal
 form = refl
 
 -- at depth 16 a colour may have 16 bits; with flag 0 there is no window
@@ -116,7 +136,7 @@ flagless =
     record { depth = 16; rotation = 0; flag = 0; width = 8; height = 4; base = 0; window = record { base = 0; x = 0; y = 0; width = 0; height = 0 } }
 
 pub screens : (refusal flagless 0 (set fill 17 255) ≡ 0) × (refusal flagless 0 (set fill 1 1) ≡ 12)
-unfolding allZero firstOf viewWidth viewHeight mainImage windowImage surfaceOf commandOf unusedZero formed insideImage placed lineWords wordsTaken commandRows refusal
+unfolding allZero firstOf viewWidth viewHeight mainImage windowImage surfaceOf commandOf mustBeZero formed insideImage placed lineWords wordsTaken commandRows refusal
 screens = (refl, refl)
 
 -- 13: no width, no height; 14: the destination or a move's source one past the surface, to the right and below
@@ -129,12 +149,12 @@ pub rectangles : map number (
     ∷ 0 ∷ 14 ∷ 0 ∷ 14
     ∷ 0 ∷ 14 ∷ 0 ∷ 14
     ∷ []
-unfolding allZero firstOf viewWidth viewHeight mainImage windowImage surfaceOf commandOf unusedZero formed insideImage placed lineWords wordsTaken commandRows refusal
+unfolding allZero firstOf viewWidth viewHeight mainImage windowImage surfaceOf commandOf mustBeZero formed insideImage placed lineWords wordsTaken commandRows refusal
 rectangles = refl
 
 -- the surface is the one named: 8 pixels to the right there is room on a main image of 16, and none on the window
 pub surfaces : (refusal (screen 8 16 8) 0 (set (set fill 4 8) 1 0) ≡ 0) × (refusal (screen 8 16 8) 0 (set (set fill 4 8) 1 1) ≡ 14)
-unfolding allZero firstOf viewWidth viewHeight mainImage windowImage surfaceOf commandOf unusedZero formed insideImage placed lineWords wordsTaken commandRows refusal
+unfolding allZero firstOf viewWidth viewHeight mainImage windowImage surfaceOf commandOf mustBeZero formed insideImage placed lineWords wordsTaken commandRows refusal
 surfaces = (refl, refl)
 
 -- an answer and its number
@@ -142,5 +162,5 @@ pub answers : (commandAnswer (screen 8 8 4) 0 fill ≡ Accepted (command 0 0 0 2
     × (commandAnswer (screen 8 8 4) 3 write ≡ Refused 15)
     × (numberOf (Accepted (command 0 0 0 2 1 3 2 0 0 0)) ≡ 0)
     × (numberOf (Refused 15) ≡ 15)
-unfolding allZero firstOf viewWidth viewHeight mainImage windowImage surfaceOf commandOf unusedZero formed insideImage placed lineWords wordsTaken commandRows refusal commandAnswer numberOf
+unfolding allZero firstOf viewWidth viewHeight mainImage windowImage surfaceOf commandOf mustBeZero formed insideImage placed lineWords wordsTaken commandRows refusal commandAnswer numberOf
 answers = (refl, refl, refl, refl)

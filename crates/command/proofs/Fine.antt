@@ -1,18 +1,20 @@
 -- What acceptance of a command says.
 use Prim.Native.Nat.{ℕ, _+_, _<_, _≤_}
-use mathlib.Core.Path.{_≡_, refl}
+use mathlib.Core.Path.{_≡_, refl, sym, ap, _∙_}
 use mathlib.Core.List.{List}
 use mathlib.Core.Bool.{Bool, true, false, not, _||_, and-eq-true-iff}
 use native.Mathlib.Omega.{arith}
 use lib.Dec.{eqb}
-use borrow.Author.Tests.{eqb-true, eq-eqb, eqb-false, ne-eqb, leb-true, ltb-false, not-false}
+use borrow.Author.Tests.{eqb-true, eq-eqb, eqb-false, leb-true, ltb-false, not-false}
+use Rattle.record.specs.Bytes.{allZero}
 use Rattle.record.specs.Checks.{AllPass}
 use Rattle.record.proofs.Checks.{none}
 use Rattle.screen.specs.declared.Image.{Image}
 use Rattle.screen.specs.declared.Screen.{Screen}
-use Rattle.command.specs.Command.{commandOf, surfaceOf, unusedZero, formed, insideImage, placed, wordsTaken, commandRows, refusal}
+use Rattle.command.specs.Command.{commandOf, surfaceOf, mustBeZero, formed, insideImage, placed, wordsTaken, commandRows, refusal}
 use Rattle.command.specs.declared.Command.{Command}
 use Rattle.command.proofs.Answer.{command-numbered}
+use Rattle.command.proofs.Operation.{by-fill, by-move, by-write}
 
 -- a rectangle at (x, y) lies in an image
 pub record Inside (i : Image) (x y width height : ℕ) : Type 0 where
@@ -39,23 +41,18 @@ pub record Fine (s : Screen) (left : ℕ) (c : Command) : Type 0 where
 asked : (t b : Bool) → (not t || b) ≡ true → t ≡ true → b ≡ true
 asked t b e h = rw h at e
 
-fill-says : (c : Command) → unusedZero c ≡ true → c .operation ≡ 0 → (c .raster ≡ 0) × (c .sx ≡ 0) × (c .sy ≡ 0)
-unfolding unusedZero
-fill-says c e h =
-    let t = simp (eq-eqb (c .operation) 0 h, and-eq-true-iff) at e in
-    omega (arith, eqb-true)
+module _ (c : Command) (e : allZero (mustBeZero c) ≡ true) where
+  fill-says : c .operation ≡ 0 → (c .raster ≡ 0) × (c .sx ≡ 0) × (c .sy ≡ 0)
+  unfolding mustBeZero allZero
+  fill-says h = let t = simp and-eq-true-iff at (sym (ap allZero (by-fill (c .operation) _ _ _ h)) ∙ e) in omega (arith, eqb-true)
 
-move-says : (c : Command) → unusedZero c ≡ true → c .operation ≡ 1 → c .colour ≡ 0
-unfolding unusedZero
-move-says c e h =
-    let t = simp (ne-eqb (c .operation) 0 (λ z. omega arith), eq-eqb (c .operation) 1 h) at e in
-    eqb-true (c .colour) 0 t
+  move-says : c .operation ≡ 1 → c .colour ≡ 0
+  unfolding mustBeZero allZero
+  move-says h = let t = simp and-eq-true-iff at (sym (ap allZero (by-move (c .operation) _ _ _ h)) ∙ e) in omega (arith, eqb-true)
 
-write-says : (c : Command) → unusedZero c ≡ true → c .operation ≡ 2 → (c .sx ≡ 0) × (c .sy ≡ 0) × (c .colour ≡ 0)
-unfolding unusedZero
-write-says c e h =
-    let t = simp (ne-eqb (c .operation) 0 (λ z. omega arith), ne-eqb (c .operation) 1 (λ z. omega arith), and-eq-true-iff) at e in
-    omega (arith, eqb-true)
+  write-says : c .operation ≡ 2 → (c .sx ≡ 0) × (c .sy ≡ 0) × (c .colour ≡ 0)
+  unfolding mustBeZero allZero
+  write-says h = let t = simp and-eq-true-iff at (sym (ap allZero (by-write (c .operation) _ _ _ h)) ∙ e) in omega (arith, eqb-true)
 
 inside-says : (i : Image) (x y width height : ℕ) → insideImage i x y width height ≡ true → Inside i x y width height
 unfolding insideImage
@@ -93,6 +90,6 @@ fine s left b e =
       wide = w .0;
       high = omega (arith, eqb-false (c .height) 0 (w .1));
       destination = inside-says (surfaceOf s c) (c .x) (c .y) (c .width) (c .height) (i .0);
-      source = λ h. inside-says (surfaceOf s c) (c .sx) (c .sy) (c .width) (c .height) (asked (eqb (c .operation) 1) _ (i .1) (eq-eqb (c .operation) 1 h));
+      source = λ h. inside-says (surfaceOf s c) (c .sx) (c .sy) (c .width) (c .height) (sym (by-move (c .operation) _ _ _ h) ∙ i .1);
       words = ltb-false left (wordsTaken s c) (p .1 .1 .1 .0);
     }

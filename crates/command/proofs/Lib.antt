@@ -1,4 +1,10 @@
 pub mod Answer
+pub mod Operation
+pub mod Bytes
 pub mod Fine
 pub mod Numbers
+pub mod Commands
+pub mod Task
+pub mod Values
+pub mod Tasks
 pub mod Cases

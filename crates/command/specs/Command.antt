@@ -1,10 +1,10 @@
 -- The command record (01, "Stored records"), and its refusals 12 to 15 (01, "Refusal numbers").
 use Prim.Native.Nat.{ℕ, _+_, _*_, _/_}
-use mathlib.Core.List.{List, [], _∷_}
-use mathlib.Core.Bool.{Bool, not, _&&_, _||_, cond}
-use lib.ListN.{take, drop}
+use mathlib.Core.List.{List, [], _∷_, _++_}
+use mathlib.Core.Bool.{Bool, true, not, _&&_, _||_, cond}
+use lib.ListN.{take, drop, replicate}
 use lib.Dec.{leb, ltb, eqb}
-use Rattle.record.specs.Bytes.{byteAt, u16At, allZero}
+use Rattle.record.specs.Bytes.{byteAt, u16At, twoBytes, allZero}
 use Rattle.record.specs.Checks.{Row, row, firstOf}
 use Rattle.screen.specs.Screen.{mainImage, windowImage}
 use Rattle.screen.specs.declared.Image.{Image}
@@ -29,26 +29,29 @@ commandOf b =
       colour = u16At b 16;
     }
 
--- operations: 0 fill, 1 move, 2 write
-abbrev pub isFill : Command → Bool
-isFill c = eqb (c .operation) 0
+-- the 32 bytes of a command
+unfoldable pub commandBytes : Command → List ℕ
+commandBytes c =
+    c .operation ∷ c .surface ∷ c .raster ∷ 0
+    ∷ twoBytes (c .x) ++ twoBytes (c .y) ++ twoBytes (c .width) ++ twoBytes (c .height) ++ twoBytes (c .sx) ++ twoBytes (c .sy) ++ twoBytes (c .colour)
+    ++ replicate 14 0
 
-abbrev pub isMove : Command → Bool
-isMove c = eqb (c .operation) 1
-
-abbrev pub isWrite : Command → Bool
-isWrite c = eqb (c .operation) 2
+-- a value for each operation: 0 fill, 1 move and, for any other number, 2 write
+module _ {A : Type 0} where
+  abbrev pub byOperation : ℕ → A → A → A → A
+  byOperation operation fill move write = cond (eqb operation 0) fill (cond (eqb operation 1) move write)
 
 -- surfaces: 0 main, 1 window
 unfoldable pub surfaceOf : Screen → Command → Image
 surfaceOf s c = cond (eqb (c .surface) 0) (mainImage s) (windowImage s)
 
--- what an operation does not use is zero. Fill: raster code and source; move: colour; write: source and colour
-unfoldable pub unusedZero : Command → Bool
-unusedZero c =
-    cond (isFill c) (eqb (c .raster) 0 && (eqb (c .sx) 0 && eqb (c .sy) 0))
-    (cond (isMove c) (eqb (c .colour) 0)
-    (eqb (c .sx) 0 && (eqb (c .sy) 0 && eqb (c .colour) 0)))
+-- "Fill: raster code and source zero. Move: colour zero. Write: source and colour zero"
+unfoldable pub mustBeZero : Command → List ℕ
+mustBeZero c =
+    byOperation (c .operation)
+    (c .raster ∷ c .sx ∷ c .sy ∷ [])
+    (c .colour ∷ [])
+    (c .sx ∷ c .sy ∷ c .colour ∷ [])
 
 -- not refused by 12: operation, surface, raster code and colour are there, and what must be zero is
 unfoldable pub formed : Screen → List ℕ → Command → Bool
@@ -57,7 +60,7 @@ formed s b c =
     && (leb (c .surface) (s .flag)
     && (leb (c .raster) 15
     && ((not (eqb (s .depth) 8) || leb (c .colour) 255)
-    && (unusedZero c
+    && (allZero (mustBeZero c)
     && (eqb (byteAt b 3) 0
     && allZero (take 14 (drop 18 b)))))))
 
@@ -69,7 +72,10 @@ insideImage i x y width height = leb (x + width) (i .width) && leb (y + height) 
 unfoldable pub placed : Screen → Command → Bool
 placed s c =
     insideImage (surfaceOf s c) (c .x) (c .y) (c .width) (c .height)
-    && (not (isMove c) || insideImage (surfaceOf s c) (c .sx) (c .sy) (c .width) (c .height))
+    && byOperation (c .operation)
+    true
+    (insideImage (surfaceOf s c) (c .sx) (c .sy) (c .width) (c .height))
+    true
 
 -- host words of a line: (width + 1) ÷ 2 at depth 8, width at 16
 unfoldable pub lineWords : ℕ → ℕ → ℕ
@@ -77,7 +83,7 @@ lineWords depth width = cond (eqb depth 8) ((width + 1) / 2) width
 
 -- host words that a command takes
 unfoldable pub wordsTaken : Screen → Command → ℕ
-wordsTaken s c = cond (isWrite c) (lineWords (s .depth) (c .width) * c .height) 0
+wordsTaken s c = byOperation (c .operation) 0 0 (lineWords (s .depth) (c .width) * c .height)
 
 -- rows 12 to 15 for a command record, with so many host words left
 unfoldable pub commandRows : Screen → ℕ → List ℕ → Command → List Row
@@ -87,6 +93,10 @@ commandRows s left b c =
     ∷ row 14 (not (placed s c))
     ∷ row 15 (ltb left (wordsTaken s c))
     ∷ []
+
+-- a number of these rows: it names the command that is refused
+abbrev pub namesCommand : ℕ → Bool
+namesCommand n = leb 12 n && leb n 15
 
 -- 0, or why the record is refused
 unfoldable pub refusal : Screen → ℕ → List ℕ → ℕ

@@ -1,11 +1,11 @@
 -- The register values of a command, in the stream's order (01, "Blits").
 use Prim.Native.Nat.{ℕ, _+_, _-_, _*_, _/_}
-use mathlib.Core.List.{List, [], _∷_}
-use mathlib.Core.Bool.{Bool, _&&_, cond}
+use mathlib.Core.List.{List, [], _∷_, _++_}
+use mathlib.Core.Bool.{Bool, false, _||_, cond}
 use lib.Dec.{ltb, eqb}
 use Rattle.screen.specs.declared.Image.{Image}
 use Rattle.screen.specs.declared.Screen.{Screen}
-use Rattle.command.specs.Command.{surfaceOf, isFill, isMove, isWrite}
+use Rattle.command.specs.Command.{byOperation, surfaceOf}
 use Rattle.command.specs.declared.Command.{Command}
 
 -- address of a surface's pixel: base + y × line length + x × depth ÷ 8
@@ -21,7 +21,7 @@ sourceOf s c = addressOf (s .depth) (surfaceOf s c) (c .sx) (c .sy)
 
 -- "Move goes in negative direction exactly when its destination address is greater than its source address"
 unfoldable pub isNegative : Screen → Command → Bool
-isNegative s c = isMove c && ltb (sourceOf s c) (destinationOf s c)
+isNegative s c = byOperation (c .operation) false (ltb (sourceOf s c) (destinationOf s c)) false
 
 -- "both start addresses are then the lower right pixels'": so many pixels to the right and lines down
 unfoldable pub lastColumn : Screen → Command → ℕ
@@ -32,13 +32,11 @@ lastLine s c = cond (isNegative s c) (c .height - 1) 0
 
 -- 8008h: operation in bits 3-0 (write 0, move 2, in negative direction 3, fill Ch), raster code in bits 19-16
 unfoldable pub commandValue : Screen → Command → ℕ
-commandValue s c =
-    cond (isFill c) 0xC (cond (isWrite c) 0 (cond (isNegative s c) 3 2)) + 65536 * c .raster
+commandValue s c = byOperation (c .operation) 0xC (cond (isNegative s c) 3 2) 0 + 65536 * c .raster
 
--- 800Ch: a move's start address; 0 for fill and write
+-- 800Ch: a move's start address, "0 for write"
 unfoldable pub sourceValue : Screen → Command → ℕ
-sourceValue s c =
-    cond (isMove c) (addressOf (s .depth) (surfaceOf s c) (c .sx + lastColumn s c) (c .sy + lastLine s c)) 0
+sourceValue s c = byOperation (c .operation) 0 (addressOf (s .depth) (surfaceOf s c) (c .sx + lastColumn s c) (c .sy + lastLine s c)) 0
 
 -- 8010h
 unfoldable pub destinationValue : Screen → Command → ℕ
@@ -52,16 +50,35 @@ controlValue depth = cond (eqb depth 16) 0x40001 1
 abbrev pub blitRegisters : List ℕ
 blitRegisters = 0x8008 ∷ 0x800C ∷ 0x8010 ∷ 0x8014 ∷ 0x8018 ∷ 0x801C ∷ 0x8020 ∷ 0x8024 ∷ 0x8000 ∷ []
 
--- their values: memory offset is the line length in 16-bit words, width and height hold one less, unused values are 0
+-- "Every operation uses 8008h, 8010h, 8014h, 8018h, 801Ch and 8000h; move and write also 800Ch (0 for write), fill also 8024h"
+abbrev pub usedRegisters : ℕ → List ℕ
+usedRegisters operation =
+    (0x8008 ∷ 0x8010 ∷ 0x8014 ∷ 0x8018 ∷ 0x801C ∷ 0x8000 ∷ [])
+    ++ byOperation operation (0x8024 ∷ []) (0x800C ∷ []) (0x800C ∷ [])
+
+abbrev isOneOf : ℕ → List ℕ → Bool
+isOneOf n [] = false
+isOneOf n (x ∷ xs) = eqb n x || isOneOf n xs
+
+-- an operation uses register n
+abbrev pub uses : ℕ → ℕ → Bool
+uses operation n = isOneOf n (usedRegisters operation)
+
+-- "unused values 0"
+abbrev pub usedValue : ℕ → ℕ → ℕ → ℕ
+usedValue operation n v = cond (uses operation n) v 0
+
+-- the values of the registers in their order: memory offset is the line length in 16-bit words, width and height hold one less;
+-- no operation uses 8020h
 unfoldable pub blitValues : Screen → Command → List ℕ
 blitValues s c =
-    commandValue s c
-    ∷ sourceValue s c
-    ∷ destinationValue s c
-    ∷ (surfaceOf s c .line / 2)
-    ∷ (c .width - 1)
-    ∷ (c .height - 1)
+    usedValue (c .operation) 0x8008 (commandValue s c)
+    ∷ usedValue (c .operation) 0x800C (sourceValue s c)
+    ∷ usedValue (c .operation) 0x8010 (destinationValue s c)
+    ∷ usedValue (c .operation) 0x8014 (surfaceOf s c .line / 2)
+    ∷ usedValue (c .operation) 0x8018 (c .width - 1)
+    ∷ usedValue (c .operation) 0x801C (c .height - 1)
     ∷ 0
-    ∷ c .colour
-    ∷ controlValue (s .depth)
+    ∷ usedValue (c .operation) 0x8024 (c .colour)
+    ∷ usedValue (c .operation) 0x8000 (controlValue (s .depth))
     ∷ []

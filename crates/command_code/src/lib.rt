@@ -2,8 +2,9 @@
 ghost use mathlib.Core.Path.{_≡_};
 ghost use Prim.Native.Nat.{_-_, _≤_};
 ghost use lib.ListN.{length};
+ghost use Rattle.record.specs.Bytes.{allZero};
 ghost use Rattle.record.specs.Checks.{firstOf};
-ghost use Rattle.command.specs.Command.{commandOf, surfaceOf, unusedZero, formed, insideImage, placed, lineWords, wordsTaken, commandRows, refusal, commandAnswer, numberOf};
+ghost use Rattle.command.specs.Command.{commandOf, byOperation, surfaceOf, mustBeZero, formed, insideImage, placed, lineWords, wordsTaken, commandRows, namesCommand, refusal, commandAnswer, numberOf};
 ghost use Rattle.command.specs.Values.{addressOf, isNegative, lastColumn, lastLine, commandValue, sourceValue, destinationValue, controlValue, blitValues};
 use command::Command;
 use command::CommandAnswer;
@@ -41,7 +42,7 @@ pub fn surface_of(s: Screen, c: Command) -> Image
 
 // Whether the fields that the operation does not use are zero.
 fn is_unused_zero(c: Command) -> bool
-    ensures { λ r. ⌜ r ≡ unusedZero c ⌝ }
+    ensures { λ r. ⌜ r ≡ allZero (mustBeZero c) ⌝ }
 {
     if c.operation == 0 {
         return (c.raster == 0) & ((c.sx == 0) & (c.sy == 0));
@@ -96,30 +97,37 @@ fn line_words(depth: u8, width: u16) -> u32
 pub fn words_taken(s: Screen, c: Command) -> u32
     ensures { λ r. ⌜ r ≡ wordsTaken s c ⌝ }
 {
-    if c.operation != 2 {
+    if c.operation <= 1 {
         return 0;
     }
     line_words(s.depth, c.width) * c.height as u32
 }
+
+// Whether a refusal number names the command that is refused.
+pub fn names_command(n: u32) -> bool
+    ensures { λ r. ⌜ r ≡ namesCommand n ⌝ }
+{
+    (12 <= n) & (n <= 15)
+}
+
+// The numbers of the checks of a command, in their order.
+const COMMAND_CHECKS: [u32; 4] = [12, 13, 14, 15];
 
 // The first of 12 to 15 that holds, with so many host words left; 0 for none.
 fn refusal_of(s: Screen, left: u64, b: &[u8], c: Command) -> u32
     requires { ⌜ length (now b) ≡ 32 ⌝ }
     ensures { λ r. ⌜ r ≡ firstOf (commandRows s left (now (b .entry)) c) ⌝ }
 {
-    if !is_formed(s, b, c) {
-        return 12;
-    }
-    if (c.width == 0) | (c.height == 0) {
-        return 13;
-    }
-    if !is_placed(s, c) {
-        return 14;
-    }
-    if left < words_taken(s, c) as u64 {
-        return 15;
-    }
-    0
+    let formed = is_formed(s, b, c);
+    let placed = is_placed(s, c);
+    let words = words_taken(s, c) as u64;
+    let fails = [
+        !formed,
+        (c.width == 0) | (c.height == 0),
+        !placed,
+        left < words,
+    ];
+    record_code::first_of(&COMMAND_CHECKS, &fails)
 }
 
 // The command of a 32-byte part of the list, or the first refusal number of 12 to 15.
@@ -191,7 +199,7 @@ fn command_value(s: Screen, c: Command) -> u64
     if c.operation == 0 {
         return 12 + raster;
     }
-    if c.operation == 2 {
+    if c.operation != 1 {
         return 0 + raster;
     }
     if is_negative(s, c) {
@@ -233,6 +241,16 @@ fn control_value(depth: u8) -> u64
     1
 }
 
+// The value of 8024h: only a fill uses it.
+fn colour_value(c: Command) -> u64
+    ensures { λ r. ⌜ r ≡ byOperation (c .operation) (c .colour) 0 0 ⌝ }
+{
+    if c.operation == 0 {
+        return c.colour as u64;
+    }
+    0
+}
+
 // The nine register values of a command, in the stream's order.
 pub fn blit_values(s: Screen, c: Command) -> [u64; 9]
     ensures { λ r. ⌜ r ≡ blitValues s c ⌝ }
@@ -244,6 +262,7 @@ pub fn blit_values(s: Screen, c: Command) -> [u64; 9]
     let offset = on.line as u64 / 2;
     let width = less_one(c.width) as u64;
     let height = less_one(c.height) as u64;
+    let colour = colour_value(c);
     let control = control_value(s.depth);
     [
         command,
@@ -253,7 +272,7 @@ pub fn blit_values(s: Screen, c: Command) -> [u64; 9]
         width,
         height,
         0,
-        c.colour as u64,
+        colour,
         control,
     ]
 }

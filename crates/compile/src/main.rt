@@ -20,7 +20,7 @@ fn print_lines(part: &[u8]) -> bool
 fn print_stream(stream: &[u8]) {
     let mut at = 0;
     while at < stream.len() {
-        let room = text_code::least(8192, stream.len() - at);
+        let room = record_code::least(8192, stream.len() - at);
         let end = at + room;
         if !print_lines(&stream[at..end]) {
             return;

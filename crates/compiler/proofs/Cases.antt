@@ -1,20 +1,23 @@
 -- Cases by computation: B4, lists of commands, and the refusals that speak of the list, the host words and the buffer.
-use Prim.Native.Nat.{ℕ, zero, suc, _*_}
+use Prim.Native.Nat.{ℕ, _*_}
 use mathlib.Core.Path.{_≡_, refl}
 use mathlib.Core.List.{List, [], _∷_, _++_, map}
 use lib.ListN.{replicate, take}
 use Rattle.record.specs.Bytes.{allZero}
+use Rattle.record.specs.Lists.{partsFrom, partsOf}
 use Rattle.record.specs.Record.{recordWith, recordBytes, streamBytes}
 use Rattle.record.specs.Checks.{firstOf}
 use Rattle.pixel.specs.Depth.{isDepth}
 use Rattle.screen.specs.Image.{imageEnd, startOf}
 use Rattle.screen.specs.Screen.{memorySize, fieldsOf, wellFormed, panelOk, viewWidth, viewHeight, wholeDwords, mainImage, windowImage, imageOk, windowOk, windowWhole, fieldRows, screenRows}
 use Rattle.screen.specs.Values.{windowX, windowY, originOf, valuesOf}
-use Rattle.screen.specs.Cases.{plain, withWindow}
-use Rattle.command.specs.Command.{commandOf, surfaceOf, unusedZero, formed, insideImage, placed, lineWords, wordsTaken, commandRows, refusal}
+use Rattle.screen.specs.Cases.{withWindow}
+use Rattle.command.specs.Command.{commandOf, surfaceOf, mustBeZero, formed, insideImage, placed, lineWords, wordsTaken, commandRows, refusal}
 use Rattle.command.specs.Values.{addressOf, destinationOf, sourceOf, isNegative, lastColumn, lastLine, commandValue, sourceValue, destinationValue, controlValue, blitValues}
-use Rattle.compiler.specs.Stream.{partsFrom, partsOf, recordsWith, screenRecords, dataRecords, commandRecords, drawRecords, recordsFor}
-use Rattle.compiler.specs.Compile.{listRows, firstRefusal, allWords, endRows, refusalOf, compiling, streamOf, bufferAfter, compilingOf, answerOf, numbersOf}
+use Rattle.command.specs.Task.{commandSize, task, listRows, firstRefusal, allWords, wordRows, taskRefusal}
+use Rattle.command.proofs.Tasks.{panel, badWindow, fill, move, write, strange, empty, outside, times, fourWords}
+use Rattle.compiler.specs.Stream.{recordsWith, screenRecords, dataRecords, commandRecords, drawRecords, recordsFor}
+use Rattle.compiler.specs.Compile.{roomRows, refusalOf, compiling, streamOf, bufferAfter, compilingOf, answerOf, numbersOf}
 use Rattle.compiler.specs.Part.{partFrom, partSize}
 use Rattle.compiler.specs.declared.Compiled.the-variants.{Accepted, Refused}
 
@@ -39,8 +42,9 @@ pub record Result : Type 0 where
 abbrev run : Case → Result
 run c =
     let old : List ℕ = replicate (c .room) 7 in
-    let r = compiling memorySize (c .screen) (c .list) (c .words) (c .room) in
-    record { numbers = numbersOf r; from = partFrom (c .list) r; size = partSize (c .list) r; bytes = take (c .shown) (bufferAfter memorySize (c .screen) (c .list) (c .words) old) }
+    let t = task (c .screen) (c .list) (c .words) in
+    let r = compiling memorySize t (c .room) in
+    record { numbers = numbersOf r; from = partFrom commandSize (c .list) r; size = partSize commandSize (c .list) r; bytes = take (c .shown) (bufferAfter memorySize t old) }
 
 abbrev accepted : ℕ → ℕ → List ℕ → Result
 accepted length depth bytes = record { numbers = 0 ∷ 0 ∷ length ∷ depth ∷ 0 ∷ 0 ∷ []; from = 0; size = 0; bytes = bytes }
@@ -51,41 +55,9 @@ refused n = record { numbers = n ∷ 0 ∷ 0 ∷ 0 ∷ 0 ∷ 0 ∷ []; from = 0;
 abbrev refusedCommand : ℕ → ℕ → Result
 refusedCommand n i = record { numbers = n ∷ i ∷ 0 ∷ 0 ∷ 0 ∷ 0 ∷ []; from = i * 32; size = 32; bytes = 7 ∷ 7 ∷ [] }
 
--- 320 by 240 at a depth, base 0
-abbrev panel : ℕ → List ℕ
-panel depth = plain depth 0 320 240 0
-
--- the same at depth 8 with a window of 8 by 1 whose base is 2
-abbrev badWindow : List ℕ
-badWindow = 8 ∷ 0 ∷ 1 ∷ 0 ∷ 64 ∷ 1 ∷ 240 ∷ 0 ∷ 0 ∷ 0 ∷ 0 ∷ 0 ∷ 2 ∷ 0 ∷ 0 ∷ 0 ∷ 0 ∷ 0 ∷ 0 ∷ 0 ∷ 8 ∷ 0 ∷ 1 ∷ replicate 9 0
-
 -- S6's screen: turned by 270 degrees, with a window
 abbrev turned : List ℕ
 turned = withWindow 3 64 80 120 160
-
--- B1's fill; a move by one pixel to the right; a write of three by two pixels
-abbrev fill : List ℕ
-fill = 0 ∷ 0 ∷ 0 ∷ 0 ∷ 10 ∷ 0 ∷ 20 ∷ 0 ∷ 100 ∷ 0 ∷ 150 ∷ 0 ∷ 0 ∷ 0 ∷ 0 ∷ 0 ∷ 1 ∷ replicate 15 0
-
-abbrev move : List ℕ
-move = 1 ∷ 0 ∷ 0xC ∷ 0 ∷ 1 ∷ 0 ∷ 0 ∷ 0 ∷ 7 ∷ 0 ∷ 1 ∷ 0 ∷ replicate 20 0
-
-abbrev write : List ℕ
-write = 2 ∷ 0 ∷ 0xC ∷ 0 ∷ 1 ∷ 0 ∷ 0 ∷ 0 ∷ 3 ∷ 0 ∷ 2 ∷ 0 ∷ replicate 20 0
-
--- operation 3; a rectangle of no width; one that ends past the surface
-abbrev strange : List ℕ
-strange = 3 ∷ replicate 31 0
-
-abbrev empty : List ℕ
-empty = 0 ∷ 0 ∷ 0 ∷ 0 ∷ 10 ∷ 0 ∷ 20 ∷ 0 ∷ 0 ∷ 0 ∷ 150 ∷ 0 ∷ replicate 20 0
-
-abbrev outside : List ℕ
-outside = 0 ∷ 0 ∷ 0 ∷ 0 ∷ 10 ∷ 0 ∷ 91 ∷ 0 ∷ 100 ∷ 0 ∷ 150 ∷ 0 ∷ replicate 20 0
-
-abbrev times : ℕ → List ℕ → List ℕ
-times zero l = []
-times (suc n) l = l ++ times n l
 
 abbrev screenBytes : ℕ → List ℕ
 screenBytes offset = streamBytes (recordWith 0x40 0 ∷ recordWith 0x44 offset ∷ recordWith 0x50 0 ∷ recordWith 0x54 0 ∷ recordWith 0x58 0 ∷ recordWith 0x5C 0 ∷ [])
@@ -99,9 +71,6 @@ moveBytes = streamBytes (recordWith 0x8008 0xC0003 ∷ recordWith 0x800C 6 ∷ r
 
 abbrev writeBytes : List ℕ → List ℕ
 writeBytes words = streamBytes (recordWith 0x8008 0xC0000 ∷ recordWith 0x800C 0 ∷ recordWith 0x8010 1 ∷ recordWith 0x8014 0xA0 ∷ recordWith 0x8018 2 ∷ recordWith 0x801C 1 ∷ recordWith 0x8020 0 ∷ recordWith 0x8024 0 ∷ recordWith 0x8000 1 ∷ map (recordWith 0x10000) words)
-
-abbrev fourWords : List ℕ
-fourWords = 0x201 ∷ 3 ∷ 0x504 ∷ 6 ∷ []
 
 abbrev fourWords′ : List ℕ
 fourWords′ = 0xA09 ∷ 0xB ∷ 0xD0C ∷ 0xE ∷ []
@@ -170,7 +139,7 @@ expected =
     ∷ []
 
 pub cases-hold : map run cases ≡ expected
-unfolding allZero recordBytes streamBytes firstOf isDepth imageEnd startOf fieldsOf wellFormed panelOk viewWidth viewHeight wholeDwords mainImage windowImage imageOk windowOk windowWhole fieldRows screenRows windowX windowY originOf valuesOf commandOf surfaceOf unusedZero formed insideImage placed lineWords wordsTaken commandRows refusal addressOf destinationOf sourceOf isNegative lastColumn lastLine commandValue sourceValue destinationValue controlValue blitValues partsFrom partsOf recordsWith screenRecords dataRecords commandRecords drawRecords recordsFor listRows firstRefusal allWords endRows refusalOf compiling streamOf bufferAfter numbersOf partFrom partSize
+unfolding allZero recordBytes streamBytes firstOf isDepth imageEnd startOf fieldsOf wellFormed panelOk viewWidth viewHeight wholeDwords mainImage windowImage imageOk windowOk windowWhole fieldRows screenRows windowX windowY originOf valuesOf commandOf surfaceOf mustBeZero formed insideImage placed lineWords wordsTaken commandRows refusal addressOf destinationOf sourceOf isNegative lastColumn lastLine commandValue sourceValue destinationValue controlValue blitValues partsFrom partsOf recordsWith screenRecords dataRecords commandRecords drawRecords recordsFor listRows firstRefusal allWords wordRows taskRefusal roomRows refusalOf compiling streamOf bufferAfter numbersOf partFrom partSize
 cases-hold = refl
 
 -- the numbers of an answer, and the answer with these numbers

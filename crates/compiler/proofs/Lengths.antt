@@ -1,37 +1,17 @@
 -- How many records a stream's parts are.
-use Prim.Native.Nat.{ℕ, zero, suc, _+_, _-_, _*_, _/_, _<_, _≤_}
+use Prim.Native.Nat.{ℕ, suc, _+_, _*_, _≤_}
 use mathlib.Core.Path.{_≡_, refl, ap}
 use mathlib.Core.List.{List, [], _∷_}
-use native.Mathlib.Numerals.{add-one}
 use native.Mathlib.Omega.{arith}
 use lib.ListN.{length, take, drop, length-append, length-drop}
 use lib.Seq.{length-take-le}
 use Rattle.screen.specs.declared.Screen.{Screen}
 use Rattle.command.specs.Command.{commandOf, wordsTaken}
 use Rattle.command.specs.Values.{blitRegisters, blitValues}
+use Rattle.command.specs.Task.{allWords}
 use Rattle.command.specs.declared.Command.{Command}
-use Rattle.compiler.specs.Stream.{partsFrom, partsOf, recordsWith, screenRecords, dataRecords, commandRecords, drawRecords, recordsFor}
-use Rattle.compiler.specs.Compile.{allWords}
+use Rattle.compiler.specs.Stream.{recordsWith, screenRecords, dataRecords, commandRecords, drawRecords, recordsFor}
 
--- ---- a list's parts, one by one
-pub parts-step : (size : ℕ) (list : List ℕ) (i n : ℕ) → i < n → partsFrom size list i (n - i) ≡ take size (drop (i * size) list) ∷ partsFrom size list (i + 1) (n - (i + 1))
-unfolding partsFrom
-parts-step size list i n h = let e : n - i ≡ suc (n - (i + 1)) = omega arith in rw (e, add-one)
-
-pub parts-end : (size : ℕ) (list : List ℕ) (i n : ℕ) → n ≤ i → partsFrom size list i (n - i) ≡ []
-unfolding partsFrom
-parts-end size list i n h = let e : n - i ≡ 0 = omega arith in rw e
-
-length-from : (size : ℕ) (list : List ℕ) (i n : ℕ) → length (partsFrom size list i n) ≡ n
-unfolding partsFrom
-length-from size list i zero = refl
-length-from size list i (suc n) = ap suc (length-from size list (suc i) n)
-
-pub length-parts : (size : ℕ) (list : List ℕ) → length (partsOf size list) ≡ length list / size
-unfolding partsOf
-length-parts size list = length-from size list 0 (length list / size)
-
--- ---- records
 pub length-screen : (s : Screen) → length (screenRecords s) ≡ 6
 unfolding screenRecords recordsWith
 length-screen s = refl

@@ -1,9 +1,8 @@
 pub mod Lengths
-pub mod Commands
 pub mod FirstPass
 pub mod SecondPass
 pub mod Puts
-pub mod Part
+pub mod Parts
 pub mod Outcome
 pub mod Accepted
 pub mod Cases

@@ -6,18 +6,20 @@ use native.Mathlib.Nat.{sub-zero, sub-add-eq, add-sub-cancel-left}
 use native.Mathlib.Omega.{arith}
 use lib.ListN.{length, take, drop, length-append, length-drop}
 use lib.Seq.{drop-drop, length-take-le, sets, length-sets}
+use Rattle.record.specs.Lists.{partsOf}
 use Rattle.record.specs.Record.{streamBytes}
 use Rattle.record.specs.declared.Record.{Record}
+use Rattle.record.proofs.Lists.{parts-step, parts-end}
 use Rattle.record.proofs.Stores.{sets-append, stream-append, length-stream}
 use Rattle.screen.specs.declared.Screen.{Screen}
 use Rattle.command.specs.Command.{commandOf, wordsTaken}
 use Rattle.command.specs.Values.{blitRegisters, blitValues}
+use Rattle.command.specs.Task.{firstRefusal}
 use Rattle.command.specs.declared.Command.{Command}
 use Rattle.command.proofs.Fine.{Fine}
-use Rattle.compiler.specs.Stream.{partsOf, recordsWith, dataRecords, commandRecords, drawRecords}
-use Rattle.compiler.specs.Compile.{firstRefusal, commandSize}
-use Rattle.compiler.proofs.Lengths.{parts-step, parts-end, length-registers, length-command}
-use Rattle.compiler.proofs.Commands.{AllFine, all-fine}
+use Rattle.command.proofs.Commands.{AllFine, all-fine}
+use Rattle.compiler.specs.Stream.{recordsWith, dataRecords, commandRecords, drawRecords}
+use Rattle.compiler.proofs.Lengths.{length-registers, length-command}
 use Rattle.compiler.proofs.FirstPass.{rest, partAt}
 
 -- the bytes of records, and behind them those of others
@@ -32,21 +34,21 @@ command-stored s c at l words values e f g =
     g ∙ ap (λ (b : List ℕ). sets b (at + 72) (streamBytes (dataRecords words))) (f ∙ ap (λ (v : List ℕ). sets l at (streamBytes (recordsWith blitRegisters v))) e)
     ∙ sym (stored-both l at (recordsWith blitRegisters (blitValues s c)) (dataRecords words) ∙ (rw n))
 
-module _ (s : Screen) (list words : List ℕ) where
+module _ (s : Screen) (size : ℕ) (list words : List ℕ) where
   -- the records from command i on, with the host words from `used` on
   abbrev pub recordsAt : ℕ → ℕ → ℕ → List Record
-  recordsAt count i used = drawRecords s (drop used words) (rest list count i)
+  recordsAt count i used = drawRecords s (drop used words) (rest size list count i)
 
   pub record Writing (buffer₀ buffer : List ℕ) (count i used at : ℕ) : Type 0 where
-    pub count-is : count ≡ length list / commandSize
+    pub count-is : count ≡ length list / size
     pub within : i ≤ count
     pub taken : used ≤ length words
     pub same : length buffer ≡ length buffer₀
-    pub fine : AllFine s (length words - used) (rest list count i)
+    pub fine : AllFine s (length words - used) (rest size list count i)
     pub room : at + 8 * length (recordsAt count i used) ≤ length buffer
-    pub stored : sets buffer₀ 48 (streamBytes (drawRecords s words (partsOf commandSize list))) ≡ sets buffer at (streamBytes (recordsAt count i used))
+    pub stored : sets buffer₀ 48 (streamBytes (drawRecords s words (partsOf size list))) ≡ sets buffer at (streamBytes (recordsAt count i used))
 
-  pub writing-start : (buffer : List ℕ) → firstRefusal s 0 (length words) (partsOf commandSize list) .number ≡ 0 → 48 + 8 * length (drawRecords s words (partsOf commandSize list)) ≤ length buffer → Writing buffer buffer (length list / commandSize) 0 0 48
+  pub writing-start : (buffer : List ℕ) → firstRefusal s 0 (length words) (partsOf size list) .number ≡ 0 → 48 + 8 * length (drawRecords s words (partsOf size list)) ≤ length buffer → Writing buffer buffer (length list / size) 0 0 48
   unfolding partsOf
   writing-start buffer p q =
       record {
@@ -54,7 +56,7 @@ module _ (s : Screen) (list words : List ℕ) where
         within = omega arith;
         taken = omega arith;
         same = refl;
-        fine = rw (sub-zero, sub-zero) (all-fine s 0 (length words) (partsOf commandSize list) p);
+        fine = rw (sub-zero, sub-zero) (all-fine s 0 (length words) (partsOf size list) p);
         room = rw sub-zero q;
         stored = rw sub-zero;
       }
@@ -72,16 +74,16 @@ module _ (s : Screen) (list words : List ℕ) where
   draw-end ws = refl
 
   module _ (buffer₀ buffer : List ℕ) (count i used at : ℕ) (g : Writing buffer₀ buffer count i used at) where
-    module _ (c : Command) (h : i < count) (e : c ≡ commandOf (partAt list i)) where
-      steps : Fine s (length words - used) c × AllFine s (length words - used - wordsTaken s c) (rest list count (i + 1))
-      steps = rw e (fine-step (length words - used) (partAt list i) (rest list count (i + 1)) (rw (parts-step commandSize list i count h) at (g .fine)))
+    module _ (c : Command) (h : i < count) (e : c ≡ commandOf (partAt size list i)) where
+      steps : Fine s (length words - used) c × AllFine s (length words - used - wordsTaken s c) (rest size list count (i + 1))
+      steps = rw e (fine-step (length words - used) (partAt size list i) (rest size list count (i + 1)) (rw (parts-step size list i count h) at (g .fine)))
 
       pub words-there : used + wordsTaken s c ≤ length words
       words-there = omega (arith, g .taken, steps .0 .words)
 
       -- the command's records, and the others
       pub records-step : recordsAt count i used ≡ commandRecords s c (take (wordsTaken s c) (drop used words)) ++ recordsAt count (i + 1) (used + wordsTaken s c)
-      records-step = rw (parts-step commandSize list i count h, draw-step, ← e, drop-drop)
+      records-step = rw (parts-step size list i count h, draw-step, ← e, drop-drop)
 
       words-length : length (take (wordsTaken s c) (drop used words)) ≡ wordsTaken s c
       words-length = length-take-le (wordsTaken s c) (drop used words) (rw length-drop (omega (arith, words-there)))
@@ -116,6 +118,6 @@ module _ (s : Screen) (list words : List ℕ) where
       pub writing-step : (n : ℕ) (new : List ℕ) → n ≡ wordsTaken s c → new ≡ sets buffer at (streamBytes (commandRecords s c (take (used + n - used) (drop used words)))) → Writing buffer₀ new count (i + 1) (used + n) (at + 72 + 8 * n)
       writing-step n new d f = rw d (writing-turn new (f ∙ (rw (add-sub-cancel-left, d))))
 
-    pub writing-end : count ≤ i → buffer ≡ sets buffer₀ 48 (streamBytes (drawRecords s words (partsOf commandSize list)))
+    pub writing-end : count ≤ i → buffer ≡ sets buffer₀ 48 (streamBytes (drawRecords s words (partsOf size list)))
     unfolding streamBytes
-    writing-end h = sym (g .stored ∙ (rw (parts-end commandSize list i count h, draw-end)))
+    writing-end h = sym (g .stored ∙ (rw (parts-end size list i count h, draw-end)))

@@ -4,7 +4,7 @@ use mathlib.Core.List.{List}
 use mathlib.Core.Bool.{cond}
 use lib.Dec.{eqb}
 use Rattle.screen.specs.declared.Screen.{Screen}
-use Rattle.compiler.specs.Compile.{firstRefusal, allWords}
+use Rattle.command.specs.Task.{firstRefusal, allWords}
 use Rattle.compiler.specs.declared.Pass.{Pass}
 
 -- the first refusal of 12 to 15, or the host words that the commands take

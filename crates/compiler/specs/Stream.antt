@@ -1,24 +1,15 @@
 -- The stream that a screen and a list of commands compile to, as records (01, "Blits": "The stream").
-use Prim.Native.Nat.{ℕ, zero, suc, _*_, _/_}
+use Prim.Native.Nat.{ℕ}
 use mathlib.Core.List.{List, [], _∷_, _++_}
-use lib.ListN.{length, take, drop}
+use lib.ListN.{take, drop}
 use Rattle.record.specs.Record.{recordWith}
 use Rattle.record.specs.declared.Record.{Record}
-use Rattle.screen.specs.Values.{valuesOf}
-use Rattle.screen.specs.declared.ScreenValues.{ScreenValues}
+use Rattle.screen.specs.Values.{valuesOf, sixValues}
 use Rattle.screen.specs.declared.Screen.{Screen}
 use Rattle.command.specs.Command.{commandOf, wordsTaken}
 use Rattle.command.specs.Values.{blitRegisters, blitValues}
+use Rattle.command.specs.Task.{Task, screenIn, commandsIn}
 use Rattle.command.specs.declared.Command.{Command}
-
--- a list of n parts of so many bytes, from part i on
-unfoldable pub partsFrom : ℕ → List ℕ → ℕ → ℕ → List (List ℕ)
-partsFrom size list i zero = []
-partsFrom size list i (suc n) = take size (drop (i * size) list) ∷ partsFrom size list (suc i) n
-
--- the list's commands
-unfoldable pub partsOf : ℕ → List ℕ → List (List ℕ)
-partsOf size list = partsFrom size list 0 (length list / size)
 
 -- records of register numbers and their values
 unfoldable pub recordsWith : List ℕ → List ℕ → List Record
@@ -29,9 +20,6 @@ recordsWith (n ∷ ns) (v ∷ vs) = recordWith n v ∷ recordsWith ns vs
 -- main start, main offset, window start, window offset, X, Y (002 sections 7.4 and 8.1)
 abbrev pub screenRegisters : List ℕ
 screenRegisters = 0x40 ∷ 0x44 ∷ 0x50 ∷ 0x54 ∷ 0x58 ∷ 0x5C ∷ []
-
-abbrev pub sixValues : ScreenValues → List ℕ
-sixValues v = v .main .start ∷ v .main .offset ∷ v .window .start ∷ v .window .offset ∷ v .x ∷ v .y ∷ []
 
 unfoldable pub screenRecords : Screen → List Record
 screenRecords s = recordsWith screenRegisters (sixValues (valuesOf s))
@@ -55,3 +43,7 @@ drawRecords s words (b ∷ bs) =
 -- the whole stream
 unfoldable pub recordsFor : Screen → List (List ℕ) → List ℕ → List Record
 recordsFor s commands words = screenRecords s ++ drawRecords s words commands
+
+-- the stream of a task
+abbrev pub recordsIn : Task → List Record
+recordsIn t = recordsFor (screenIn t) (commandsIn t) (t .words)

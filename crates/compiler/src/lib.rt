@@ -12,3 +12,9 @@ pub struct Pass {
     pub place: u64,
     pub used: u64,
 }
+
+// Where the refused command stands in the list, in bytes, and its length; 0 and 0 where no command is refused.
+pub struct Part {
+    pub at: u64,
+    pub length: u64,
+}

@@ -2,17 +2,19 @@
 ghost use mathlib.Core.Path.{_≡_};
 ghost use lib.ListN.{length};
 ghost use Rattle.screen.specs.Screen.{memorySize};
+ghost use Rattle.command.specs.Task.{commandSize, task};
 ghost use Rattle.compiler.specs.Compile.{compiling, bufferAfter, compilingOf, answerOf, numbersOf};
-ghost use Rattle.compiler.specs.Part.{RefusedPart};
+ghost use Rattle.compiler.specs.Part.{partFrom, partSize, RefusedPart};
 use compiler::Compiled;
+use compiler::Part;
 use screen::ScreenAnswer;
 
 // Compiles: the stream's length with the screen's depth, rotation and flag, or a refusal. The stream buffer then holds
 // the stream, or its old bytes.
 pub fn compile_into(screen: &[u8], list: &[u8], words: &[u16], stream: &mut [u8]) -> Compiled
-    ensures { λ r. ⌜ compilingOf r ≡ compiling memorySize (now (screen .entry)) (now (list .entry)) (now (words .entry)) (length (now (stream .entry))) ⌝ }
-    ensures { λ r. ⌜ r ≡ answerOf (compiling memorySize (now (screen .entry)) (now (list .entry)) (now (words .entry)) (length (now (stream .entry)))) ⌝ }
-    ensures { λ r. ⌜ now (stream .exit) ≡ bufferAfter memorySize (now (screen .entry)) (now (list .entry)) (now (words .entry)) (now (stream .entry)) ⌝ }
+    ensures { λ r. ⌜ compilingOf r ≡ compiling memorySize (task (now (screen .entry)) (now (list .entry)) (now (words .entry))) (length (now (stream .entry))) ⌝ }
+    ensures { λ r. ⌜ r ≡ answerOf (compiling memorySize (task (now (screen .entry)) (now (list .entry)) (now (words .entry))) (length (now (stream .entry)))) ⌝ }
+    ensures { λ r. ⌜ now (stream .exit) ≡ bufferAfter memorySize (task (now (screen .entry)) (now (list .entry)) (now (words .entry))) (now (stream .entry)) ⌝ }
 {
     let answer = screen_code::read_screen(screen);
     match answer {
@@ -44,24 +46,36 @@ pub fn compile_into(screen: &[u8], list: &[u8], words: &[u16], stream: &mut [u8]
     }
 }
 
-// The part of the list that an answer refuses; else an empty part, at the list's start.
-pub fn refused_part<'a>(list: &'a [u8], c: Compiled) -> &'a [u8]
-    ensures { λ r. ⌜ RefusedPart (list .entry) r (compilingOf c) ⌝ }
+// Where the command stands in the list that an answer refuses; else no bytes, at the list's start.
+pub fn part_of(list: &[u8], c: Compiled) -> Part
+    ensures { λ r. ⌜ (r .at ≡ partFrom commandSize (now (list .entry)) (compilingOf c)) × (r .length ≡ partSize commandSize (now (list .entry)) (compilingOf c)) ⌝ }
 {
     let count = list.len() as u64 / 32;
     match c {
         Compiled::Accepted(_, _, _, _) => {
-            return &list[0..0];
+            return Part { at: 0, length: 0 };
         }
         Compiled::Refused(n, place) => {
-            if !((12 <= n) & ((n <= 15) & (place < count))) {
-                return &list[0..0];
+            let named = command_code::names_command(n);
+            if !(named & (place < count)) {
+                return Part { at: 0, length: 0 };
             }
-            let at = place as usize * 32;
-            let end = at + 32;
-            return &list[at..end];
+            return Part {
+                at: place * 32,
+                length: 32,
+            };
         }
     }
+}
+
+// The part of the list that an answer refuses; else an empty part, at the list's start.
+pub fn refused_part<'a>(list: &'a [u8], c: Compiled) -> &'a [u8]
+    ensures { λ r. ⌜ RefusedPart commandSize (list .entry) r (compilingOf c) ⌝ }
+{
+    let p = part_of(list, c);
+    let at = p.at as usize;
+    let end = at + p.length as usize;
+    &list[at..end]
 }
 
 // Stores an answer's numbers.
@@ -86,9 +100,9 @@ pub fn compile<'a>(
     stream: &mut [u8],
     answer: &mut [u64; 6],
 ) -> &'a [u8]
-    ensures { λ r. ⌜ RefusedPart (list .entry) r (compiling memorySize (now (screen .entry)) (now (list .entry)) (now (words .entry)) (length (now (stream .entry)))) ⌝ }
-    ensures { λ r. ⌜ now (answer .exit) ≡ numbersOf (compiling memorySize (now (screen .entry)) (now (list .entry)) (now (words .entry)) (length (now (stream .entry)))) ⌝ }
-    ensures { λ r. ⌜ now (stream .exit) ≡ bufferAfter memorySize (now (screen .entry)) (now (list .entry)) (now (words .entry)) (now (stream .entry)) ⌝ }
+    ensures { λ r. ⌜ RefusedPart commandSize (list .entry) r (compiling memorySize (task (now (screen .entry)) (now (list .entry)) (now (words .entry))) (length (now (stream .entry)))) ⌝ }
+    ensures { λ r. ⌜ now (answer .exit) ≡ numbersOf (compiling memorySize (task (now (screen .entry)) (now (list .entry)) (now (words .entry))) (length (now (stream .entry)))) ⌝ }
+    ensures { λ r. ⌜ now (stream .exit) ≡ bufferAfter memorySize (task (now (screen .entry)) (now (list .entry)) (now (words .entry))) (now (stream .entry)) ⌝ }
 {
     let c = compile_into(screen, list, words, stream);
     store(answer, c);

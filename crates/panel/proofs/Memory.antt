@@ -7,6 +7,7 @@ use mathlib.Core.List.{List}
 use lib.ListN.{length}
 use Rattle.io.specs.Counts.{Counts}
 use Rattle.screen.specs.Screen.{memorySize}
+use Rattle.command.specs.Task.{Task}
 use Rattle.unit.specs.Draw.{memoryDrawn}
 use Rattle.files.specs.System.{LoadedBytes}
 use Rattle.files.specs.declared.Loaded.{Loaded}
@@ -18,5 +19,5 @@ left-out old n h e = record { within = h; either = inl (record { ok = refl; coun
 pub from-file : (old new : List ℕ) (r : Loaded) → LoadedBytes old new r → LoadedMemory old new r
 from-file old new r l = record { within = l .within; either = inr l }
 
-pub drawn-with : (screen list words memory new : List ℕ) (room size : ℕ) → size ≡ room → new ≡ memoryDrawn memorySize screen list words room memory → new ≡ memoryDrawn memorySize screen list words size memory
-drawn-with screen list words memory new room size e f = f ∙ ap (λ (k : ℕ). memoryDrawn memorySize screen list words k memory) (sym e)
+pub drawn-with : (t : Task) (memory new : List ℕ) (room size : ℕ) → size ≡ room → new ≡ memoryDrawn memorySize t room memory → new ≡ memoryDrawn memorySize t size memory
+drawn-with t memory new room size e f = f ∙ ap (λ (k : ℕ). memoryDrawn memorySize t k memory) (sym e)

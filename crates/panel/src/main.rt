@@ -9,6 +9,7 @@
 ghost use mathlib.Core.Path.{_≡_};
 ghost use lib.ListN.{length, replicate};
 ghost use Rattle.screen.specs.Screen.{memorySize};
+ghost use Rattle.command.specs.Task.{task};
 ghost use Rattle.unit.specs.Draw.{memoryDrawn};
 ghost use Rattle.files.specs.System.{YesOrNo};
 ghost use Rattle.panel.specs.Memory.{LoadedMemory};
@@ -77,13 +78,7 @@ fn show(screen: &[u8], values: ScreenValues, memory: &[u8]) {
             files::print_refusal(n as u64, 0);
         }
         ScreenAnswer::Accepted(s) => {
-            let d = Display {
-                depth: s.depth as u32,
-                rotation: s.rotation as u32,
-                flag: s.flag as u32,
-                width: s.width as u32,
-                height: s.height as u32,
-            };
+            let d = reader_code::display_of(s);
             print_picture(d, values, memory);
         }
     }
@@ -91,7 +86,7 @@ fn show(screen: &[u8], values: ScreenValues, memory: &[u8]) {
 
 // Draws the list over the memory, and writes the picture or the refusal.
 fn run(screen: &[u8], list: &[u8], words: &[u16], memory: &mut [u8])
-    ensures { λ _. ⌜ now (memory .exit) ≡ memoryDrawn memorySize (now (screen .entry)) (now (list .entry)) (now (words .entry)) 2097152 (now (memory .entry)) ⌝ }
+    ensures { λ _. ⌜ now (memory .exit) ≡ memoryDrawn memorySize (task (now (screen .entry)) (now (list .entry)) (now (words .entry))) 2097152 (now (memory .entry)) ⌝ }
 {
     let mut stream = files::stream();
     let drawn = unit_code::draw(screen, list, words, &mut stream, memory);

@@ -100,7 +100,7 @@ pub fn put_points(d: Display, values: ScreenValues, q: u32, memory: &[u8], line:
 {
     let depth = d.depth;
     let size = pixel_size(depth);
-    let n = text_code::least(d.width as usize, line.len() / size);
+    let n = record_code::least(d.width as usize, line.len() / size);
     let mut i = 0;
     let mut at = 0;
     while i < n {

@@ -1,12 +1,14 @@
 // The point reader: what a panel point shows.
 ghost use mathlib.Core.Path.{_≡_};
 ghost use mathlib.Core.Bool.{true};
-ghost use lib.ListN.{length};
+ghost use lib.ListN.{length, take};
+ghost use Rattle.record.specs.Checks.{firstOf};
 ghost use Rattle.screen.specs.Screen.{memorySize};
 ghost use Rattle.screen.specs.Fields.{valuesFit};
-ghost use Rattle.reader.specs.Read.{reading, readingOf, answerOf};
+ghost use Rattle.reader.specs.Read.{displayOf, readRows, reading, readingOf, answerOf};
 use reader::Display;
 use reader::PointAnswer;
+use screen::Screen;
 use screen::ScreenValues;
 
 // Refusal 21: whether each of the six values is in its field.
@@ -22,50 +24,68 @@ fn values_fit(v: ScreenValues) -> bool
     at_main & (at_window & (x & y))
 }
 
-// The colour that panel point (p, q) shows, or the first refusal number.
+// What a screen sets the panel to.
+pub fn display_of(s: Screen) -> Display
+    ensures { λ r. ⌜ r ≡ displayOf s ⌝ }
+{
+    Display {
+        depth: s.depth as u32,
+        rotation: s.rotation as u32,
+        flag: s.flag as u32,
+        width: s.width as u32,
+        height: s.height as u32,
+    }
+}
+
+// The numbers of the checks of what the reader is given, in their order; 25, on where the chip looks, comes after these.
+const GIVEN_CHECKS: [u32; 8] = [18, 1, 2, 3, 4, 5, 21, 24];
+
+// The first of these that fails; 0 for none.
+fn first_fault(size: u64, d: Display, values: ScreenValues, p: u32, q: u32, memory: &[u8]) -> u32
+    ensures { λ r. ⌜ r ≡ firstOf (take 8 (readRows size d values p q (now (memory .entry)))) ⌝ }
+{
+    let view_width = screen_code::view_width(d.rotation, d.width, d.height);
+    let fails = [
+        memory.len() as u64 != size,
+        1 < d.flag,
+        !pixel_code::is_depth(d.depth),
+        3 < d.rotation,
+        !screen_code::is_panel(d.width, d.height),
+        !screen_code::is_whole(d.depth, view_width),
+        !values_fit(values),
+        !((p < d.width) & (q < d.height)),
+    ];
+    record_code::first_of(&GIVEN_CHECKS, &fails)
+}
+
+// The colour that panel point (p, q) shows in a memory of so many bytes, or the first refusal number.
+pub fn read_point_in(
+    size: u64,
+    d: Display,
+    values: ScreenValues,
+    p: u32,
+    q: u32,
+    memory: &[u8],
+) -> PointAnswer
+    ensures { λ r. ⌜ readingOf r ≡ reading size d values p q (now (memory .entry)) ⌝ }
+    ensures { λ r. ⌜ r ≡ answerOf (reading size d values p q (now (memory .entry))) ⌝ }
+{
+    let n = first_fault(size, d, values, p, q, memory);
+    if n != 0 {
+        return PointAnswer::Refused(n);
+    }
+    let w = view_code::place_of(d.depth, d.rotation, d.flag, values, p, q);
+    let dword = record_code::minus(w.up, w.down);
+    if !((w.down <= w.up) & (dword < size / 4)) {
+        return PointAnswer::Refused(25);
+    }
+    PointAnswer::Colour(pixel_code::dword_pixel(d.depth, memory, dword as usize, w.pixel as u32))
+}
+
+// The same in the S1D13A05's memory.
 pub fn read_point(d: Display, values: ScreenValues, p: u32, q: u32, memory: &[u8]) -> PointAnswer
     ensures { λ r. ⌜ readingOf r ≡ reading memorySize d values p q (now (memory .entry)) ⌝ }
     ensures { λ r. ⌜ r ≡ answerOf (reading memorySize d values p q (now (memory .entry))) ⌝ }
 {
-    let depth = d.depth;
-    let rotation = d.rotation;
-    let flag = d.flag;
-    let width = d.width;
-    let height = d.height;
-    if memory.len() != 262144 {
-        return PointAnswer::Refused(18);
-    }
-    if 1 < flag {
-        return PointAnswer::Refused(1);
-    }
-    if !pixel_code::is_depth(depth) {
-        return PointAnswer::Refused(2);
-    }
-    if 3 < rotation {
-        return PointAnswer::Refused(3);
-    }
-    if !screen_code::is_panel(width, height) {
-        return PointAnswer::Refused(4);
-    }
-    if !screen_code::is_whole(depth, screen_code::view_width(rotation, width, height)) {
-        return PointAnswer::Refused(5);
-    }
-    if !values_fit(values) {
-        return PointAnswer::Refused(21);
-    }
-    if !((p < width) & (q < height)) {
-        return PointAnswer::Refused(24);
-    }
-    let w = view_code::place_of(depth, rotation, flag, values, p, q);
-    let up = w.up;
-    let down = w.down;
-    let index = w.pixel;
-    if up < down {
-        return PointAnswer::Refused(25);
-    }
-    let dword = up - down;
-    if 65535 < dword {
-        return PointAnswer::Refused(25);
-    }
-    PointAnswer::Colour(pixel_code::dword_pixel(depth, memory, dword as usize, index as u32))
+    read_point_in(262144, d, values, p, q, memory)
 }

@@ -1,13 +1,16 @@
 -- The one law of every table of refusals: accepted exactly when no row fails, else number and place of the first that does.
-use Prim.Native.Nat.{ℕ, _<_}
-use mathlib.Core.Path.{_≡_, refl, sym, ap, _∙_}
-use mathlib.Core.Bool.{Bool, true, false, cond}
+use Prim.Native.Nat.{ℕ, _+_, _<_, _≤_}
+use mathlib.Core.Path.{_≡_, refl, ap, _∙_}
+use mathlib.Core.Bool.{Bool, true, false, _||_, cond, true≢false}
 use mathlib.Core.List.{List, [], _∷_, _++_}
 use mathlib.Core.Logic.{_↔_}
+use native.Mathlib.Numerals.{add-one}
 use native.Mathlib.Omega.{arith}
+use lib.ListN.{length, getD, drop, drop-of-length-le}
+use lib.Seq.{drop-cons}
 use lib.Dec.{eqb}
 use borrow.Author.Tests.{eqb-true, eqb-false}
-use Rattle.record.specs.Checks.{Row, row, rowsAt, firstOf, firstPlace, AllPass, FirstFails, Numbered}
+use Rattle.record.specs.Checks.{Row, row, rowsWith, anyOf, rowsAt, firstOf, firstPlace, AllPass, FirstFails, Numbered}
 
 -- a choice that gives 0 is not the first case where that is above 0
 second : (b : Bool) (n x : ℕ) → 0 < n → cond b n x ≡ 0 → (b ≡ false) × (x ≡ 0)
@@ -194,3 +197,42 @@ at-place-parts i a b n =
     place-parts (rowsAt i a) b (numbered-at i a n)
     ∙ ap (λ (x : ℕ). cond (eqb x 0) (firstPlace b) (firstPlace (rowsAt i a))) (number-at i a)
     ∙ at-then i a b (eqb (firstOf a) 0) refl
+
+-- ---- rows by their numbers and what the checks found
+-- nothing found: no number
+pub none-found : (ns : List ℕ) (bs : List Bool) → anyOf bs ≡ false → firstOf (rowsWith ns bs) ≡ 0
+unfolding anyOf rowsWith firstOf
+none-found [] bs e = refl
+none-found (n ∷ ns) [] e = refl
+none-found (n ∷ ns) (true ∷ bs) e = absurd (true≢false e)
+none-found (n ∷ ns) (false ∷ bs) e = none-found ns bs e
+
+-- what is found in the rest, for a loop that goes up
+module _ (bs : List Bool) (i : ℕ) where
+  pub found-step : (t : Bool) → i < length bs → t || anyOf (drop i bs) ≡ (t || getD bs i false) || anyOf (drop (i + 1) bs)
+  unfolding anyOf
+  found-step true h = refl
+  found-step false h = rw (add-one, drop-cons bs i false) refl
+
+  pub found-end : (t : Bool) → length bs ≤ i → t || anyOf (drop i bs) ≡ t
+  unfolding anyOf
+  found-end true h = refl
+  found-end false h = rw (drop-of-length-le bs h) refl
+
+-- and for the loop that looks for the number
+module _ (ns : List ℕ) (bs : List Bool) (i : ℕ) where
+  pub rows-step : i < length ns → i < length bs → getD bs i false ≡ false → firstOf (rowsWith (drop i ns) (drop i bs)) ≡ firstOf (rowsWith (drop (i + 1) ns) (drop (i + 1) bs))
+  unfolding rowsWith firstOf
+  rows-step p q e = rw (add-one, drop-cons ns i 0, drop-cons bs i false) (rw e refl)
+
+  pub rows-stop : i < length ns → i < length bs → getD bs i false ≡ true → firstOf (rowsWith (drop i ns) (drop i bs)) ≡ getD ns i 0
+  unfolding rowsWith firstOf
+  rows-stop p q e = rw (drop-cons ns i 0, drop-cons bs i false) (rw e refl)
+
+  pub rows-over : length bs ≤ i → firstOf (rowsWith (drop i ns) (drop i bs)) ≡ 0
+  unfolding rowsWith firstOf
+  rows-over h = rw (drop-of-length-le bs h) (no-checks (drop i ns))
+    where
+      no-checks : (xs : List ℕ) → firstOf (rowsWith xs []) ≡ 0
+      no-checks [] = refl
+      no-checks (x ∷ xs) = refl

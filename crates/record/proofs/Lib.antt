@@ -4,3 +4,5 @@ pub mod Checks
 pub mod Stores
 pub mod Records
 pub mod Zero
+pub mod Lists
+pub mod Part

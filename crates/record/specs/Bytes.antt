@@ -17,6 +17,10 @@ u16At s at = byteAt s at + 256 * byteAt s (at + 1)
 abbrev pub u32At : List ℕ → ℕ → ℕ
 u32At s at = u16At s at + 65536 * u16At s (at + 2)
 
+-- the two bytes of a number
+abbrev pub twoBytes : ℕ → List ℕ
+twoBytes v = v % 256 ∷ v / 256 % 256 ∷ []
+
 -- the four bytes of a number
 abbrev pub fourBytes : ℕ → List ℕ
 fourBytes v = v % 256 ∷ v / 256 % 256 ∷ v / 65536 % 256 ∷ v / 16777216 % 256 ∷ []

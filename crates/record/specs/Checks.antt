@@ -1,7 +1,7 @@
 -- Refusals in order (01, "Refusal numbers, also the order of checking"): the first number of a table of checks, and its place.
 use Prim.Native.Nat.{ℕ, _<_}
 use mathlib.Core.Path.{_≡_}
-use mathlib.Core.Bool.{Bool, true, false, cond}
+use mathlib.Core.Bool.{Bool, true, false, _||_, cond}
 use mathlib.Core.List.{List, [], _∷_, _++_}
 
 -- a row of the table: its number, the place that a refusal by it names, and whether what it refuses is there
@@ -13,6 +13,17 @@ pub record Row : Type 0 where
 -- a row that names no command and no record: its place is 0
 abbrev pub row : ℕ → Bool → Row
 row n b = record { number = n; place = 0; fails = b }
+
+-- rows of numbers and of what the checks found, as many as there are of both
+unfoldable pub rowsWith : List ℕ → List Bool → List Row
+rowsWith [] bs = []
+rowsWith (n ∷ ns) [] = []
+rowsWith (n ∷ ns) (b ∷ bs) = row n b ∷ rowsWith ns bs
+
+-- one of the checks found something
+unfoldable pub anyOf : List Bool → Bool
+anyOf [] = false
+anyOf (b ∷ bs) = b || anyOf bs
 
 -- the rows of a table, each at place i
 unfoldable pub rowsAt : ℕ → List Row → List Row
@@ -28,6 +39,11 @@ firstOf (r ∷ rs) = cond (r .fails) (r .number) (firstOf rs)
 unfoldable pub firstPlace : List Row → ℕ
 firstPlace [] = 0
 firstPlace (r ∷ rs) = cond (r .fails) (r .place) (firstPlace rs)
+
+-- a refusal number and its place; number 0 for none
+pub record Refusal : Type 0 where
+  pub number : ℕ
+  pub place : ℕ
 
 -- no row fails
 unfoldable pub AllPass : List Row → Type 0

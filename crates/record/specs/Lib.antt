@@ -1,3 +1,5 @@
 pub mod Bytes
+pub mod Lists
+pub mod Part
 pub mod Record
 pub mod Checks

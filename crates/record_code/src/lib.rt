@@ -1,10 +1,11 @@
 // Numbers and records in byte slices.
 ghost use mathlib.Core.Path.{_≡_};
-ghost use Prim.Native.Nat.{_+_, _-_, _*_, _/_, _%_, _≤_, _<_};
+ghost use Prim.Native.Nat.{_+_, _-_, _*_, _/_, _%_, _≤_, _<_, min};
 ghost use lib.ListN.{length};
 ghost use lib.Seq.{sets};
 ghost use Rattle.record.specs.Bytes.{u16At, u32At, fourBytes, allZero};
 ghost use Rattle.record.specs.Record.{recordBytes, recordAt};
+ghost use Rattle.record.specs.Checks.{rowsWith, anyOf, firstOf};
 use record::Record;
 
 // A byte as a wider number.
@@ -97,4 +98,42 @@ pub fn remainder(a: u64, b: u64) -> u64
     ensures { λ r. ⌜ r ≡ a % b ⌝ }
 {
     if b == 0 { a } else { a % b }
+}
+
+// The lesser of two numbers.
+pub fn least(a: usize, b: usize) -> usize
+    ensures { λ r. ⌜ r ≡ min a b ⌝ }
+{
+    if a <= b { a } else { b }
+}
+
+// Whether one of the checks found something.
+fn any_of(fails: &[bool]) -> bool
+    ensures { λ r. ⌜ r ≡ anyOf (now (fails .entry)) ⌝ }
+{
+    let mut any = false;
+    let mut j = 0;
+    while j < fails.len() {
+        any = any | fails[j];
+        j += 1;
+    }
+    any
+}
+
+// The number of the first check that fails; 0 where none does, which is asked of all at once.
+pub fn first_of(numbers: &[u32], fails: &[bool]) -> u32
+    requires { ⌜ length (now numbers) ≡ length (now fails) ⌝ }
+    ensures { λ r. ⌜ r ≡ firstOf (rowsWith (now (numbers .entry)) (now (fails .entry))) ⌝ }
+{
+    if !any_of(fails) {
+        return 0;
+    }
+    let mut k = 0;
+    while k < fails.len() {
+        if fails[k] {
+            return numbers[k];
+        }
+        k += 1;
+    }
+    0
 }

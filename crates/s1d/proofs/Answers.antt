@@ -1,14 +1,14 @@
 -- The structs that the functions give back, one law for each way out.
-use Prim.Native.Nat.{ℕ, _*_}
+use Prim.Native.Nat.{ℕ}
 use mathlib.Core.Path.{_≡_, sym, ap, subst, _∙_}
 use mathlib.Core.List.{List, [], _∷_}
-use mathlib.Core.Bool.{true, false}
 use Rattle.screen.specs.Screen.{memorySize}
 use Rattle.screen.specs.declared.ScreenValues.{ScreenValues}
 use Rattle.screen.proofs.Fits.{InFields}
-use Rattle.compiler.specs.Stream.{sixValues}
-use Rattle.compiler.specs.Compile.{Compiling, refusedBy, compilingOf}
-use Rattle.compiler.specs.Part.{ofCommand, partFrom, partSize}
+use Rattle.screen.specs.Values.{sixValues}
+use Rattle.command.specs.Task.{commandSize}
+use Rattle.compiler.specs.Compile.{Compiling, compilingOf}
+use Rattle.compiler.specs.Part.{partFrom, partSize}
 use Rattle.compiler.specs.declared.Compiled.{Compiled}
 use Rattle.compiler.specs.declared.Compiled.the-variants as Compiled
 use Rattle.chip.specs.Play.{Playing, playingOf}
@@ -26,21 +26,25 @@ use Rattle.s1d.specs.Narrow.{Narrow}
 use Rattle.s1d.proofs.Fits.{narrow}
 
 -- ---- compiling
-module _ (a : Compiled) (c : Compiling) (list : List ℕ) (given : compilingOf a ≡ c) where
+module _ (a : Compiled) (c : Compiling) (list : List ℕ) (given : compilingOf a ≡ c) (from size : ℕ)
+    (part : (from ≡ partFrom commandSize list (compilingOf a)) × (size ≡ partSize commandSize list (compilingOf a))) where
+  -- an answer's numbers with its part
+  whole : compiledOf (compilingOf a) list ≡ compiledOf c list
+  whole = ap (λ (x : Compiling). compiledOf x list) given
+
   pub compiled-accepted : (n d r f : ℕ) → a ≡ Compiled.Accepted n d r f
-      → record { number = 0; place = 0; length = n; depth = d; rotation = r; flag = f; «part_at» = 0; «part_length» = 0 } ≡ compiledOf c list
-  unfolding compiledOf compilingOf partFrom partSize
-  compiled-accepted n d r f e = ap (λ (x : Compiling). compiledOf x list) (ap compilingOf (sym e) ∙ given)
+      → record { number = 0; place = 0; length = n; depth = d; rotation = r; flag = f; «part_at» = from; «part_length» = size } ≡ compiledOf c list
+  unfolding compiledOf compilingOf
+  compiled-accepted n d r f e =
+      (λ t. let x = compilingOf (sym e t) in record { number = x .number; place = x .place; length = x .length; depth = x .depth; rotation = x .rotation; flag = x .flag; «part_at» = part .0 t; «part_length» = part .1 t })
+      ∙ whole
 
-  pub compiled-refused : (n i : ℕ) → a ≡ Compiled.Refused n i → ofCommand list (refusedBy n i) ≡ false
-      → record { number = n; place = i; length = 0; depth = 0; rotation = 0; flag = 0; «part_at» = 0; «part_length» = 0 } ≡ compiledOf c list
-  unfolding compiledOf compilingOf partFrom partSize
-  compiled-refused n i e h = rw (sym (ap compilingOf (sym e) ∙ given)) (rw h)
-
-  pub command-refused : (n i : ℕ) → a ≡ Compiled.Refused n i → ofCommand list (refusedBy n i) ≡ true
-      → record { number = n; place = i; length = 0; depth = 0; rotation = 0; flag = 0; «part_at» = i * 32; «part_length» = 32 } ≡ compiledOf c list
-  unfolding compiledOf compilingOf partFrom partSize
-  command-refused n i e h = rw (sym (ap compilingOf (sym e) ∙ given)) (rw h)
+  pub compiled-refused : (n i : ℕ) → a ≡ Compiled.Refused n i
+      → record { number = n; place = i; length = 0; depth = 0; rotation = 0; flag = 0; «part_at» = from; «part_length» = size } ≡ compiledOf c list
+  unfolding compiledOf compilingOf
+  compiled-refused n i e =
+      (λ t. let x = compilingOf (sym e t) in record { number = x .number; place = x .place; length = x .length; depth = x .depth; rotation = x .rotation; flag = x .flag; «part_at» = part .0 t; «part_length» = part .1 t })
+      ∙ whole
 
 -- ---- playing
 module _ (a : Played) (p : Playing) (given : playingOf a ≡ p) where

@@ -9,7 +9,6 @@ use lib.ListN.{length}
 use borrow.Author.Tests.{eqb-true, leb-true, not-false}
 use Rattle.record.specs.Record.{recordsOf}
 use Rattle.record.specs.declared.Record.{Record}
-use Rattle.screen.specs.Screen.{fieldsOf}
 use Rattle.screen.specs.declared.ScreenValues.{ScreenValues}
 use Rattle.screen.proofs.Fits.{EdgesFit, InFields, edges-say, values-fit}
 use Rattle.chip.specs.Register.{fits, screenAfter}
@@ -19,6 +18,7 @@ use Rattle.chip.specs.declared.Chip.{Chip}
 use Rattle.chip.specs.declared.Run.{Run}
 use Rattle.chip.proofs.Runs.{run-end, run-taken, admitted}
 use Rattle.chip.proofs.Admits.{admits}
+use Rattle.command.specs.Task.{Task, screenIn}
 use Rattle.compiler.specs.Compile.{compiling}
 use Rattle.compiler.proofs.Accepted.{compiled-says}
 use Rattle.unit.specs.Draw.{Drawing, drawing}
@@ -106,12 +106,12 @@ playing-fits m stream memory =
 abbrev FineDrawn : Drawing → Type 0
 FineDrawn d = InFields (d .values)
 
-pub drawing-fits : (m : ℕ) → m ≤ 262144 → (bytes list words : List ℕ) (room : ℕ) (memory : List ℕ) → InFields (drawing m bytes list words room memory .values)
+pub drawing-fits : (m : ℕ) → m ≤ 262144 → (t : Task) (room : ℕ) (memory : List ℕ) → InFields (drawing m t room memory .values)
 unfolding drawing
-drawing-fits m small bytes list words room memory =
-    by-test FineDrawn (not (eqb (length memory) m)) _ _ (λ t. nothing-fits)
-    (λ t. by-test FineDrawn (eqb (compiling m bytes list words room .number) 0) _ _
+drawing-fits m small t room memory =
+    by-test FineDrawn (not (eqb (length memory) m)) _ _ (λ e. nothing-fits)
+    (λ e. by-test FineDrawn (eqb (compiling m t room .number) 0) _ _
     (λ u.
-    let a = compiled-says m bytes list words room (eqb-true _ 0 u) in
-    values-fit m (fieldsOf bytes) small (a .fields) (a .flag))
+    let a = compiled-says m t room (eqb-true _ 0 u) .task in
+    values-fit m (screenIn t) small (a .fields) (a .flag))
     (λ u. nothing-fits))

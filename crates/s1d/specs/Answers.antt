@@ -3,7 +3,8 @@ use Prim.Native.Nat.{ℕ}
 use mathlib.Core.List.{List}
 use lib.ListN.{getD}
 use Rattle.screen.specs.declared.ScreenValues.{ScreenValues}
-use Rattle.compiler.specs.Stream.{sixValues}
+use Rattle.screen.specs.Values.{sixValues}
+use Rattle.command.specs.Task.{commandSize}
 use Rattle.compiler.specs.Compile.{Compiling}
 use Rattle.compiler.specs.Part.{partFrom, partSize}
 use Rattle.chip.specs.Play.{Playing}
@@ -25,8 +26,8 @@ compiledOf c list =
       depth = c .depth;
       rotation = c .rotation;
       flag = c .flag;
-      «part_at» = partFrom list c;
-      «part_length» = partSize list c;
+      «part_at» = partFrom commandSize list c;
+      «part_length» = partSize commandSize list c;
     }
 
 -- playing's number, place and six values

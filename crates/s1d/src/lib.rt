@@ -2,7 +2,8 @@
 ghost use mathlib.Core.Path.{_≡_};
 ghost use lib.ListN.{length};
 ghost use Rattle.screen.specs.Screen.{memorySize};
-ghost use Rattle.compiler.specs.Stream.{sixValues};
+ghost use Rattle.command.specs.Task.{task};
+ghost use Rattle.screen.specs.Values.{sixValues};
 ghost use Rattle.compiler.specs.Compile.{compiling, bufferAfter};
 ghost use Rattle.chip.specs.Play.{playing, played};
 ghost use Rattle.reader.specs.Read.{reading};
@@ -62,11 +63,11 @@ pub extern "C" fn s1d_compile(
     words: &[u16],
     stream: &mut [u8],
 ) -> S1dCompiled
-    ensures { λ r. ⌜ r ≡ compiledOf (compiling memorySize (now (screen .entry)) (now (list .entry)) (now (words .entry)) (length (now (stream .entry)))) (now (list .entry)) ⌝ }
-    ensures { λ r. ⌜ now (stream .exit) ≡ bufferAfter memorySize (now (screen .entry)) (now (list .entry)) (now (words .entry)) (now (stream .entry)) ⌝ }
+    ensures { λ r. ⌜ r ≡ compiledOf (compiling memorySize (task (now (screen .entry)) (now (list .entry)) (now (words .entry))) (length (now (stream .entry)))) (now (list .entry)) ⌝ }
+    ensures { λ r. ⌜ now (stream .exit) ≡ bufferAfter memorySize (task (now (screen .entry)) (now (list .entry)) (now (words .entry))) (now (stream .entry)) ⌝ }
 {
-    let count = list.len() as u64 / 32;
     let answer = compiler_code::compile_into(screen, list, words, stream);
+    let part = compiler_code::part_of(list, answer);
     match answer {
         Compiled::Accepted(length, depth, rotation, flag) => S1dCompiled {
             number: 0,
@@ -75,33 +76,19 @@ pub extern "C" fn s1d_compile(
             depth,
             rotation,
             flag,
-            part_at: 0,
-            part_length: 0,
+            part_at: part.at,
+            part_length: part.length,
         },
-        Compiled::Refused(number, place) => {
-            if !((12 <= number) & ((number <= 15) & (place < count))) {
-                return S1dCompiled {
-                    number,
-                    place,
-                    length: 0,
-                    depth: 0,
-                    rotation: 0,
-                    flag: 0,
-                    part_at: 0,
-                    part_length: 0,
-                };
-            }
-            S1dCompiled {
-                number,
-                place,
-                length: 0,
-                depth: 0,
-                rotation: 0,
-                flag: 0,
-                part_at: place * 32,
-                part_length: 32,
-            }
-        }
+        Compiled::Refused(number, place) => S1dCompiled {
+            number,
+            place,
+            length: 0,
+            depth: 0,
+            rotation: 0,
+            flag: 0,
+            part_at: part.at,
+            part_length: part.length,
+        },
     }
 }
 
@@ -135,9 +122,9 @@ pub extern "C" fn s1d_play(stream: &[u8], memory: &mut [u8]) -> S1dPlayed
             place: 0,
             values: six_values(v),
         },
-        Played::Refused(fault, place) => S1dPlayed {
+        Played::Refused(fault, index) => S1dPlayed {
             number: fault,
-            place: place as u64,
+            place: index,
             values: [0, 0, 0, 0, 0, 0],
         },
     }
@@ -203,9 +190,9 @@ pub extern "C" fn s1d_draw(
     stream: &mut [u8],
     memory: &mut [u8],
 ) -> S1dDrawn
-    ensures { λ r. ⌜ r ≡ drawnOf (drawing memorySize (now (screen .entry)) (now (list .entry)) (now (words .entry)) (length (now (stream .entry))) (now (memory .entry))) ⌝ }
-    ensures { λ r. ⌜ now (stream .exit) ≡ streamDrawn memorySize (now (screen .entry)) (now (list .entry)) (now (words .entry)) (now (stream .entry)) (now (memory .entry)) ⌝ }
-    ensures { λ r. ⌜ now (memory .exit) ≡ memoryDrawn memorySize (now (screen .entry)) (now (list .entry)) (now (words .entry)) (length (now (stream .entry))) (now (memory .entry)) ⌝ }
+    ensures { λ r. ⌜ r ≡ drawnOf (drawing memorySize (task (now (screen .entry)) (now (list .entry)) (now (words .entry))) (length (now (stream .entry))) (now (memory .entry))) ⌝ }
+    ensures { λ r. ⌜ now (stream .exit) ≡ streamDrawn memorySize (task (now (screen .entry)) (now (list .entry)) (now (words .entry))) (now (stream .entry)) (now (memory .entry)) ⌝ }
+    ensures { λ r. ⌜ now (memory .exit) ≡ memoryDrawn memorySize (task (now (screen .entry)) (now (list .entry)) (now (words .entry))) (length (now (stream .entry))) (now (memory .entry)) ⌝ }
 {
     let answer = unit_code::draw(screen, list, words, stream, memory);
     match answer {

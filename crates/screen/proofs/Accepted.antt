@@ -1,23 +1,24 @@
 -- What acceptance of a screen says: its numbers, and its images in whole dwords.
-use Prim.Native.Nat.{ℕ, zero, suc, _+_, _*_, _/_, _%_, _<_, _≤_}
-use mathlib.Core.Path.{_≡_, refl, ap, _∙_}
+use Prim.Native.Nat.{ℕ, zero, suc, _+_, _-_, _*_, _/_, _%_, _<_, _≤_}
+use mathlib.Core.Path.{_≡_, refl, ap}
 use mathlib.Core.Bool.{Bool, true, false, not, _&&_, and-eq-true-iff}
 use native.Mathlib.Omega.{arith}
-use native.Mathlib.Nat.{div-add-mod, div-le-self, le-of-mul-le-mul-left}
+use native.Mathlib.Nat.{div-add-mod, div-le-self, mul-le-mul, le-of-mul-le-mul-left}
 use lib.Dec.{eqb}
 use borrow.Author.Tests.{eqb-true, eq-eqb, leb-true, ltb-false, not-false}
 use Rattle.record.specs.Checks.{firstOf, AllPass}
 use Rattle.record.proofs.Checks.{none}
 use Rattle.pixel.specs.Depth.{isDepth, perDword}
-use Rattle.pixel.proofs.Depth.{full, pos-left}
-use Rattle.screen.specs.Image.{lineBytes, imageEnd}
+use Rattle.pixel.proofs.Depth.{full, pos-left, depth-le}
+use Rattle.screen.specs.Image.{lineBytes, imageEnd, startOf}
 use Rattle.screen.specs.Screen.{panelOk, wholeDwords, mainImage, windowImage, imageOk, windowOk, windowWhole, fieldRows}
 use Rattle.screen.specs.declared.Image.{Image}
 use Rattle.screen.specs.declared.Screen.{Screen}
 use Rattle.screen.proofs.Read.{field-numbered}
 use Rattle.screen.proofs.View.{view-sides}
 
--- ---- an image in whole dwords, k pixels of d bits to a dword: its base, its line length and its width are b, l and m of them
+-- ---- an image in whole dwords, k pixels of d bits to a dword: its base, its line length and its width are b, l and m of them. A shown
+-- line fits in a line, the line offset in its register, and the starts at 180 and 270 degrees are told by the line length.
 pub record Aligned (k d : ℕ) (i : Image) : Type 0 where
   pub b : ℕ
   pub l : ℕ
@@ -28,42 +29,63 @@ pub record Aligned (k d : ℕ) (i : Image) : Type 0 where
   pub width-is : i .width ≡ k * m
   pub wide : 0 < m
   pub high : 0 < i .height
+  pub room : m ≤ l
+  pub short : l ≤ 1023
+  pub start-180 : startOf 2 d i ≡ (i .base + (i .height - 1) * i .line + lineBytes d (i .width)) / 4 - 1
+  pub start-270 : startOf 3 d i ≡ (i .base + (i .height - 1) * i .line) / 4
 
-module _ (k d : ℕ) (kd : k * d ≡ 32) where
-  -- the bytes of n dwords of pixels
-  pub row-of : (n : ℕ) → lineBytes d (k * n) ≡ 4 * n
-  row-of n =
-      let e : k * n * d ≡ 32 * n = omega (arith, ap (λ (x : ℕ). x * n) kd) in
-      omega arith
+whole-is : (k n : ℕ) → n % k ≡ 0 → n ≡ k * (n / k)
+whole-is k n h = omega (arith, div-add-mod n k)
 
-  some : (n t : ℕ) → 0 < n → n ≡ k * t → 0 < t
-  some n zero h e = omega arith
-  some n (suc t) h e = omega arith
+some : (k n t : ℕ) → 0 < n → n ≡ k * t → 0 < t
+some k n zero h e = omega arith
+some k n (suc t) h e = omega arith
 
-  -- an image that passes the tests, of lines as long as it is wide
-  aligned : (i : Image) → i .base % 4 ≡ 0 → i .line ≡ lineBytes d (i .width) → i .width % k ≡ 0 → 0 < i .width → 0 < i .height → Aligned k d i
-  aligned i hb hl hw w h =
-      let e : i .width ≡ k * (i .width / k) = omega (arith, div-add-mod (i .width) k) in
-      record {
-        b = i .base / 4;
-        l = i .width / k;
-        m = i .width / k;
-        whole = kd;
-        base-is = omega arith;
-        line-is = hl ∙ ap (lineBytes d) e ∙ row-of (i .width / k);
-        width-is = e;
-        wide = some (i .width) (i .width / k) w e;
-        high = h;
-      }
+-- the bits of n dwords of pixels
+pub bits-of : (k d n w : ℕ) → k * d ≡ 32 → w ≡ k * n → w * d ≡ 32 * n
+bits-of k d n w kd e = omega (arith, ap (λ (x : ℕ). x * d) e, ap (λ (x : ℕ). x * n) kd)
 
--- the lines of both images are as long as these are wide
-pub main-line : (s : Screen) → mainImage s .line ≡ lineBytes (s .depth) (mainImage s .width)
-unfolding mainImage
-main-line s = refl
+-- an image of n dwords a line, of lines as long as it is wide
+module _ (k d : ℕ) (kd : k * d ≡ 32) (i : Image) (n : ℕ) (width : i .width ≡ k * n) (line : i .line ≡ lineBytes d (i .width)) where
+  bits : i .width * d ≡ 32 * n
+  bits = bits-of k d n (i .width) kd width
 
-pub window-line : (s : Screen) → windowImage s .line ≡ lineBytes (s .depth) (windowImage s .width)
-unfolding windowImage
-window-line s = refl
+  dwords : i .line ≡ 4 * n
+  dwords = omega (arith, bits)
+
+  last-lines : (i .height - 1) * i .line ≡ 4 * ((i .height - 1) * n)
+  last-lines = omega (arith, ap (λ (x : ℕ). (i .height - 1) * x) dwords)
+
+  by-line-180 : 0 < i .height → startOf 2 d i ≡ (i .base + (i .height - 1) * i .line + lineBytes d (i .width)) / 4 - 1
+  unfolding startOf
+  by-line-180 h =
+      let e : i .height - 1 + 1 ≡ i .height = omega arith in
+      omega (arith, bits, last-lines, ap (λ (x : ℕ). x * n) e, ap (λ (x : ℕ). x * i .height) bits)
+
+  by-line-270 : startOf 3 d i ≡ (i .base + (i .height - 1) * i .line) / 4
+  unfolding startOf
+  by-line-270 = omega (arith, last-lines, ap (λ (x : ℕ). (i .height - 1) * x) bits)
+
+-- such an image that passes the tests, of at most 1,024 pixels a line
+aligned : (k d : ℕ) (i : Image) → k * d ≡ 32 → i .base % 4 ≡ 0 → i .line ≡ lineBytes d (i .width) → i .width % k ≡ 0 → 0 < i .width → 0 < i .height → i .width ≤ 1024 → d ≤ 16 → Aligned k d i
+aligned k d i kd hb hl hw w h narrow low =
+    let n = i .width / k in
+    let e = whole-is k (i .width) hw in
+    record {
+      b = i .base / 4;
+      l = n;
+      m = n;
+      whole = kd;
+      base-is = omega arith;
+      line-is = dwords k d kd i n e hl;
+      width-is = e;
+      wide = some k (i .width) n w e;
+      high = h;
+      room = omega arith;
+      short = omega (arith, dwords k d kd i n e hl, mul-le-mul {n₂ = 1024} {m₂ = 16} narrow low);
+      start-180 = by-line-180 k d kd i n e hl h;
+      start-270 = by-line-270 k d kd i n e hl;
+    }
 
 -- ---- what each row says where it passes
 pub panel-says : (w h : ℕ) → panelOk w h ≡ true → (w % 8 ≡ 0) × (0 < w) × (w ≤ 1024) × (0 < h) × (h ≤ 1024)
@@ -146,8 +168,9 @@ module _ (m : ℕ) (s : Screen) (a : Accepted m s) where
       (a .height, a .width, a .low, a .narrow)
 
   pub main-aligned : Aligned (perDword (s .depth)) (s .depth) (mainImage s)
+  unfolding mainImage
   main-aligned =
-      aligned (perDword (s .depth)) (s .depth) (a .whole) (mainImage s) (a .base) (main-line s) (a .view) (main-sides .0) (main-sides .1)
+      aligned (perDword (s .depth)) (s .depth) (mainImage s) (a .whole) (a .base) refl (a .view) (main-sides .0) (main-sides .1) (main-sides .2) (depth-le (s .depth) (a .depth))
 
 -- ---- an accepted window: its place and width in the view, x and w of the view's v dwords
 pub record WindowLimits (m : ℕ) (s : Screen) : Type 0 where
@@ -168,18 +191,15 @@ pub record WindowLimits (m : ℕ) (s : Screen) : Type 0 where
   pub image : Aligned (perDword (s .depth)) (s .depth) (windowImage s)
   pub ends : imageEnd (s .depth) (windowImage s) ≤ m
 
-whole-is : (k n : ℕ) → n % k ≡ 0 → n ≡ k * (n / k)
-whole-is k n h = omega (arith, div-add-mod n k)
-
 -- k * x and k * w reach no further than k * v
 sum-le : (k x w v : ℕ) → 0 < k → k * x + k * w ≤ k * v → x + w ≤ v
 sum-le k x w v h e =
     let g : k * (x + w) ≤ k * v = omega arith in
     le-of-mul-le-mul-left g h
 
-window-aligned : (m : ℕ) (s : Screen) → Accepted m s → windowImage s .base % 4 ≡ 0 → s .window .width % perDword (s .depth) ≡ 0 → 0 < s .window .width → 0 < s .window .height → Aligned (perDword (s .depth)) (s .depth) (windowImage s)
+window-aligned : (m : ℕ) (s : Screen) → Accepted m s → windowImage s .base % 4 ≡ 0 → s .window .width % perDword (s .depth) ≡ 0 → 0 < s .window .width → 0 < s .window .height → s .window .width ≤ 1024 → Aligned (perDword (s .depth)) (s .depth) (windowImage s)
 unfolding windowImage
-window-aligned m s a hb hw w h = aligned (perDword (s .depth)) (s .depth) (a .whole) (windowImage s) hb refl hw w h
+window-aligned m s a hb hw w h narrow = aligned (perDword (s .depth)) (s .depth) (windowImage s) (a .whole) hb refl hw w h narrow (depth-le (s .depth) (a .depth))
 
 pub window-limits : (m : ℕ) (s : Screen) → firstOf (fieldRows m s) ≡ 0 → s .flag ≡ 1 → WindowLimits m s
 unfolding fieldRows AllPass
@@ -200,7 +220,7 @@ window-limits m s e on =
       x-is = ex;
       w-is = ew;
       v-is = ev;
-      wide = some k (s .depth) (a .whole) (s .window .width) (s .window .width / k) (i .0) ew;
+      wide = some k (s .window .width) (s .window .width / k) (i .0) ew;
       some = i .0;
       high = i .1;
       right = sum-le k _ _ _ (pos-left k (s .depth) (a .whole)) (omega (arith, ex, ew, ev, i .2));
@@ -208,7 +228,7 @@ window-limits m s e on =
       bottom = i .3;
       span = omega (arith, div-le-self (mainImage s .width) k, main-sides m s a .2);
       lines = main-sides m s a .3;
-      image = window-aligned m s a (g .0) (h .1) (i .0) (i .1);
+      image = window-aligned m s a (g .0) (h .1) (i .0) (i .1) (omega (arith, i .2, main-sides m s a .2));
       ends = g .1;
     }
 

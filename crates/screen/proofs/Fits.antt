@@ -4,13 +4,11 @@ use mathlib.Core.Path.{_≡_, refl}
 use mathlib.Core.Bool.{true, and-eq-true-iff}
 use mathlib.Core.Logic.{⊎-elim}
 use native.Mathlib.Omega.{arith}
-use native.Mathlib.Nat.{mul-le-mul}
 use borrow.Author.Tests.{leb-true, le-leb}
 use Rattle.record.specs.Checks.{firstOf}
 use Rattle.record.proofs.Choice.{and-left, and-right, below-or-not}
 use Rattle.pixel.specs.Depth.{perDword}
-use Rattle.pixel.proofs.Depth.{depth-le}
-use Rattle.screen.specs.Image.{lineBytes, imageEnd}
+use Rattle.screen.specs.Image.{imageEnd}
 use Rattle.screen.specs.Screen.{mainImage, windowImage, fieldRows}
 use Rattle.screen.specs.Values.{originOf, valuesOf}
 use Rattle.screen.specs.Fields.{edgesFit, originFits, valuesFit}
@@ -18,8 +16,8 @@ use Rattle.screen.specs.declared.Image.{Image}
 use Rattle.screen.specs.declared.Origin.{Origin}
 use Rattle.screen.specs.declared.ScreenValues.{ScreenValues}
 use Rattle.screen.specs.declared.Screen.{Screen}
-use Rattle.screen.proofs.Accepted.{Aligned, accepted, main-sides, main-aligned, main-line, window-limits, window-line, window-sides}
-use Rattle.screen.proofs.Starts.{start-below}
+use Rattle.screen.proofs.Accepted.{Aligned, accepted, main-aligned, window-limits}
+use Rattle.screen.proofs.Starts.{offset, start-below}
 use Rattle.screen.proofs.Spans.{Span, across, down, start-fits, end-fits}
 use Rattle.screen.proofs.Values.{main-value, no-window, no-x, no-y, window-value}
 
@@ -72,13 +70,13 @@ unfolding valuesFit
 fields-pass v f = rw (origin-passes (v .main) (f .main), origin-passes (v .window) (f .window), edges-pass (v .x) (f .x)) (edges-pass (v .y) (f .y))
 
 -- ---- the values of an accepted screen
--- an image in the memory, of at most 1,024 pixels a line
-image-fits : (m r k d : ℕ) (i : Image) → Aligned k d i → i .line ≡ lineBytes d (i .width) → imageEnd d i ≤ m → m ≤ 262144 → r < 4 → i .width ≤ 1024 → d ≤ 16 → OriginFits (originOf r d i)
+-- an image in the memory
+image-fits : (m r k d : ℕ) (i : Image) → Aligned k d i → imageEnd d i ≤ m → m ≤ 262144 → r < 4 → OriginFits (originOf r d i)
 unfolding originOf
-image-fits m r k d i a l e h g w b =
+image-fits m r k d i a e h g =
     record {
-      start = omega (arith, start-below k d i a l r g);
-      offset = omega (arith, l, mul-le-mul {n₂ = 1024} {m₂ = 16} w b);
+      start = omega (arith, start-below k d i a r g);
+      offset = omega (arith, offset k d i a, a .short);
     }
 
 span-fits : (unit register near count : ℕ) → Span unit register near count → EdgesFit register
@@ -92,7 +90,7 @@ module _ (m : ℕ) (s : Screen) (h : m ≤ 262144) (e : firstOf (fieldRows m s) 
   main-fits =
       let a = accepted m s e in
       rw (main-value s)
-      (image-fits m (s .rotation) (perDword (s .depth)) (s .depth) (mainImage s) (main-aligned m s a) (main-line s) (a .ends) h (a .rotation) (main-sides m s a .2) (depth-le (s .depth) (a .depth)))
+      (image-fits m (s .rotation) (perDword (s .depth)) (s .depth) (mainImage s) (main-aligned m s a) (a .ends) h (a .rotation))
 
   fits-off : s .flag ≡ 0 → InFields (valuesOf s)
   fits-off off =
@@ -111,7 +109,7 @@ module _ (m : ℕ) (s : Screen) (h : m ≤ 262144) (e : firstOf (fieldRows m s) 
         main = main-fits;
         window =
             rw (window-value s on)
-            (image-fits m (s .rotation) (perDword (s .depth)) (s .depth) (windowImage s) (b .image) (window-line s) (b .ends) h (a .rotation) (window-sides m s e on .2) (depth-le (s .depth) (a .depth)));
+            (image-fits m (s .rotation) (perDword (s .depth)) (s .depth) (windowImage s) (b .image) (b .ends) h (a .rotation));
         x = span-fits _ _ _ _ (across m s e on (s .rotation) refl (a .rotation));
         y = span-fits _ _ _ _ (down m s e on (s .rotation) refl (a .rotation));
       }

@@ -5,14 +5,14 @@ use mathlib.Core.Path.{_≡_, refl}
 use mathlib.Core.Bool.{Bool, true, false}
 use mathlib.Core.List.{List, [], _∷_, _++_, map}
 use lib.ListN.{replicate, set}
-use Rattle.record.specs.Bytes.{allZero, fourBytes}
+use Rattle.record.specs.Bytes.{allZero, twoBytes, fourBytes}
 use Rattle.record.specs.Checks.{firstOf}
 use Rattle.pixel.specs.Depth.{isDepth}
 use Rattle.screen.specs.Image.{imageEnd, startOf}
 use Rattle.screen.specs.Screen.{memorySize, fieldsOf, wellFormed, panelOk, viewWidth, viewHeight, wholeDwords, mainImage, windowImage, imageOk, windowOk, windowWhole, fieldRows, screenRows}
 use Rattle.screen.specs.Values.{windowX, windowY, originOf, valuesOf}
 use Rattle.screen.specs.Fields.{valuesFit}
-use Rattle.screen.specs.Cases.{twoBytes, plain, withWindow}
+use Rattle.screen.specs.Cases.{plain, withWindow}
 use Rattle.screen.specs.declared.Screen.{Screen}
 
 abbrev number : List ℕ → ℕ

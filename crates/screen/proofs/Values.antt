@@ -2,12 +2,13 @@
 use Prim.Native.Nat.{ℕ}
 use mathlib.Core.Path.{_≡_, refl, ap}
 use mathlib.Core.Bool.{true, false}
+use mathlib.Core.List.{[], _∷_}
 use native.Mathlib.Omega.{arith}
 use lib.Dec.{eqb}
 use borrow.Author.Tests.{eq-eqb, ne-eqb}
 use Rattle.pixel.specs.Depth.{perDword}
 use Rattle.screen.specs.Screen.{viewWidth, viewHeight, mainImage, windowImage}
-use Rattle.screen.specs.Values.{windowX, windowY, originOf, valuesOf}
+use Rattle.screen.specs.Values.{windowX, windowY, originOf, valuesOf, sixValues}
 use Rattle.screen.specs.declared.Screen.{Screen}
 
 pub main-value : (s : Screen) → valuesOf s .main ≡ originOf (s .rotation) (s .depth) (mainImage s)
@@ -56,3 +57,7 @@ main-width s r e = ap (λ (t : ℕ). viewWidth t (s .width) (s .height)) e
 pub main-height : (s : Screen) (r : ℕ) → s .rotation ≡ r → mainImage s .height ≡ viewHeight r (s .width) (s .height)
 unfolding mainImage
 main-height s r e = ap (λ (t : ℕ). viewHeight t (s .width) (s .height)) e
+
+-- the six values stand in the stream's order
+pub six-order : (a b c d x y : ℕ) → sixValues (record { main = record { start = a; offset = b }; window = record { start = c; offset = d }; x = x; y = y }) ≡ a ∷ b ∷ c ∷ d ∷ x ∷ y ∷ []
+six-order a b c d x y = refl

@@ -3,7 +3,7 @@ use Prim.Native.Nat.{ℕ, _/_, _%_}
 use mathlib.Core.List.{List, [], _∷_, _++_}
 use mathlib.Core.Bool.{Bool, true, false, _&&_}
 use lib.Dec.{eqb}
-use Rattle.record.specs.Bytes.{fourBytes}
+use Rattle.record.specs.Bytes.{twoBytes, fourBytes}
 use Rattle.screen.specs.Screen.{screenOf, memorySize}
 use Rattle.screen.specs.Values.{valuesOf}
 use Rattle.screen.specs.declared.ScreenAnswer.{ScreenAnswer}
@@ -28,9 +28,6 @@ same (x ∷ xs) (y ∷ ys) = eqb x y && same xs ys
 unfoldable pub allHold : List Case → Bool
 allHold [] = true
 allHold (c ∷ cs) = same (c .gives) (c .paper) && allHold cs
-
-abbrev pub twoBytes : ℕ → List ℕ
-twoBytes n = n % 256 ∷ n / 256 ∷ []
 
 -- a screen record: depth, rotation, panel, base, no window
 abbrev pub plain : ℕ → ℕ → ℕ → ℕ → ℕ → List ℕ

@@ -1,5 +1,6 @@
 -- The six screen register values of a screen (01, "Screen arithmetic" and "Blits": the stream's six screen records).
 use Prim.Native.Nat.{ℕ, _+_, _-_, _*_, _/_}
+use mathlib.Core.List.{List, [], _∷_}
 use mathlib.Core.Bool.{cond}
 use lib.Dec.{eqb}
 use Rattle.pixel.specs.Depth.{perDword}
@@ -46,3 +47,7 @@ valuesOf s =
       x = cond (eqb (s .flag) 0) 0 (windowX (s .rotation) (perDword (s .depth)) (s .width) (s .window));
       y = cond (eqb (s .flag) 0) 0 (windowY (s .rotation) (perDword (s .depth)) (s .height) (s .window));
     }
+
+-- the six in the stream's order: main start, main offset, window start, window offset, X, Y
+abbrev pub sixValues : ScreenValues → List ℕ
+sixValues v = v .main .start ∷ v .main .offset ∷ v .window .start ∷ v .window .offset ∷ v .x ∷ v .y ∷ []

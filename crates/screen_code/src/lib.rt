@@ -3,7 +3,7 @@ ghost use mathlib.Core.Path.{_≡_};
 ghost use lib.ListN.{length};
 ghost use Rattle.record.specs.Checks.{firstOf};
 ghost use Rattle.screen.specs.Image.{lineBytes, imageEnd};
-ghost use Rattle.screen.specs.Screen.{fieldsOf, wellFormed, panelOk, viewWidth, viewHeight, wholeDwords, mainImage, windowImage, imageOk, windowOk, windowWhole, fieldRows, screenRows, screenOf, numberOf, memorySize};
+ghost use Rattle.screen.specs.Screen.{fieldsOf, wellFormed, panelOk, quarter, viewWidth, viewHeight, wholeDwords, mainImage, windowImage, imageOk, windowOk, windowWhole, fieldRows, screenRows, screenOf, numberOf, memorySize};
 use screen::Image;
 use screen::Screen;
 use screen::ScreenAnswer;
@@ -51,24 +51,23 @@ pub fn is_panel(width: u32, height: u32) -> bool
     (width % 8 == 0) & ((8 <= width) & ((width <= 1024) & ((1 <= height) & (height <= 1024))))
 }
 
+// Whether the view is turned by 90 or 270 degrees.
+fn is_quarter(rotation: u32) -> bool
+    ensures { λ r. ⌜ r ≡ quarter rotation ⌝ }
+{
+    (rotation == 1) | (rotation == 3)
+}
+
 pub fn view_width(rotation: u32, width: u32, height: u32) -> u32
     ensures { λ r. ⌜ r ≡ viewWidth rotation width height ⌝ }
 {
-    if (rotation == 1) | (rotation == 3) {
-        height
-    } else {
-        width
-    }
+    if is_quarter(rotation) { height } else { width }
 }
 
 pub fn view_height(rotation: u32, width: u32, height: u32) -> u32
     ensures { λ r. ⌜ r ≡ viewHeight rotation width height ⌝ }
 {
-    if (rotation == 1) | (rotation == 3) {
-        width
-    } else {
-        height
-    }
+    if is_quarter(rotation) { width } else { height }
 }
 
 // Whether n is a multiple of 32 ÷ depth.
@@ -150,52 +149,49 @@ fn is_window_whole(s: Screen) -> bool
     is_whole(s.depth as u32, w.x as u32) & is_whole(s.depth as u32, w.width as u32)
 }
 
-// The first of 2 to 9 that a screen's fields give in a memory of so many bytes; 0 for none.
+// The numbers of the checks of a screen's fields, in their order.
+const FIELD_CHECKS: [u32; 8] = [2, 3, 4, 5, 6, 7, 8, 9];
+
+// The first of these that a screen's fields give in a memory of so many bytes; 0 for none.
 fn first_fault(memory: u64, s: Screen) -> u32
     ensures { λ r. ⌜ r ≡ firstOf (fieldRows memory s) ⌝ }
 {
     let main = main_image(s);
     let window = window_image(s);
     let windowed = s.flag == 1;
-    if !pixel_code::is_depth(s.depth as u32) {
-        return 2;
-    }
-    if 3 < s.rotation {
-        return 3;
-    }
-    if !is_panel(s.width as u32, s.height as u32) {
-        return 4;
-    }
-    if !is_whole(s.depth as u32, main.width as u32) {
-        return 5;
-    }
-    if !is_image(memory, s.depth, main) {
-        return 6;
-    }
-    if windowed & !is_window(s) {
-        return 7;
-    }
-    if windowed & !is_window_whole(s) {
-        return 8;
-    }
-    if windowed & !is_image(memory, s.depth, window) {
-        return 9;
-    }
-    0
+    let fails = [
+        !pixel_code::is_depth(s.depth as u32),
+        3 < s.rotation,
+        !is_panel(s.width as u32, s.height as u32),
+        !is_whole(s.depth as u32, main.width as u32),
+        !is_image(memory, s.depth, main),
+        windowed & !is_window(s),
+        windowed & !is_window_whole(s),
+        windowed & !is_image(memory, s.depth, window),
+    ];
+    record_code::first_of(&FIELD_CHECKS, &fails)
 }
 
-// The screen that a record says, or the first refusal number of 1 to 9.
-pub fn read_screen(bytes: &[u8]) -> ScreenAnswer
-    ensures { λ r. ⌜ r ≡ screenOf memorySize (now (bytes .entry)) ⌝ }
-    ensures { λ r. ⌜ numberOf r ≡ firstOf (screenRows memorySize (now (bytes .entry))) ⌝ }
+// The screen that a record says in a memory of so many bytes, or the first refusal number of 1 to 9.
+pub fn read_screen_in(memory: u64, bytes: &[u8]) -> ScreenAnswer
+    ensures { λ r. ⌜ r ≡ screenOf memory (now (bytes .entry)) ⌝ }
+    ensures { λ r. ⌜ numberOf r ≡ firstOf (screenRows memory (now (bytes .entry))) ⌝ }
 {
     if !is_well_formed(bytes) {
         return ScreenAnswer::Refused(1);
     }
     let s = fields(bytes);
-    let n = first_fault(262144, s);
+    let n = first_fault(memory, s);
     if n == 0 {
         return ScreenAnswer::Accepted(s);
     }
     ScreenAnswer::Refused(n)
+}
+
+// The same in the S1D13A05's memory.
+pub fn read_screen(bytes: &[u8]) -> ScreenAnswer
+    ensures { λ r. ⌜ r ≡ screenOf memorySize (now (bytes .entry)) ⌝ }
+    ensures { λ r. ⌜ numberOf r ≡ firstOf (screenRows memorySize (now (bytes .entry))) ⌝ }
+{
+    read_screen_in(262144, bytes)
 }

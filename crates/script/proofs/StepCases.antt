@@ -4,6 +4,7 @@ use mathlib.Core.Path.{_≡_, refl}
 use mathlib.Core.List.{List, [], _∷_, map}
 use lib.ListN.{length, take, replicate}
 use Rattle.screen.specs.Screen.{memorySize}
+use Rattle.command.specs.Task.{task}
 use Rattle.compiler.specs.Compile.{compiling, bufferAfter, compilingOf, answerOf as compiledFrom}
 use Rattle.compiler.specs.declared.Compiled.{Compiled}
 use Rattle.compiler.specs.declared.Compiled.the-variants as compiled
@@ -67,8 +68,8 @@ part-cases = (refl, refl)
 
 -- compiling and playing happen at their own steps, on any desk and any memory
 module _ (c : Compiled) (p : Played) (desk words stream memory : List ℕ) (room : ℕ) where
-  pub compile-cases : (compiledAfter compileStep c desk words room ≡ compiledFrom (compiling memorySize (screenOn desk) (listOn desk) (wordsOn desk words) room))
-      × (streamAfter compileStep desk words stream ≡ bufferAfter memorySize (screenOn desk) (listOn desk) (wordsOn desk words) stream)
+  pub compile-cases : (compiledAfter compileStep c desk words room ≡ compiledFrom (compiling memorySize (task (screenOn desk) (listOn desk) (wordsOn desk words)) room))
+      × (streamAfter compileStep desk words stream ≡ bufferAfter memorySize (task (screenOn desk) (listOn desk) (wordsOn desk words)) stream)
       × (compiledAfter playStep c desk words room ≡ c)
       × (streamAfter playStep desk words stream ≡ stream)
   unfolding compiledAfter streamAfter

@@ -9,6 +9,7 @@ use mathlib.Core.Bool.{Bool, _||_, cond}
 use lib.ListN.{take, drop, replicate}
 use lib.Dec.{eqb}
 use Rattle.screen.specs.Screen.{memorySize}
+use Rattle.command.specs.Task.{Task, task}
 use Rattle.compiler.specs.Compile.{compiling, bufferAfter, compilingOf, answerOf as compiledFrom}
 use Rattle.compiler.specs.declared.Compiled.{Compiled}
 use Rattle.chip.specs.Play.{playing, played, answerOf as playedFrom}
@@ -100,15 +101,19 @@ listOn desk = take (32 * (numberAt desk 64 % 2)) (drop 32 desk)
 abbrev pub wordsOn : List ℕ → List ℕ → List ℕ
 wordsOn desk words = take (numberAt desk 68) words
 
+-- all of it
+abbrev pub taskOn : List ℕ → List ℕ → Task
+taskOn desk words = task (screenOn desk) (listOn desk) (wordsOn desk words)
+
 -- the answer of the last compiling, into a stream buffer of `room` bytes
 unfoldable pub compiledAfter : ℕ → Compiled → List ℕ → List ℕ → ℕ → Compiled
 compiledAfter k old desk words room =
-    cond (eqb k compileStep) (compiledFrom (compiling memorySize (screenOn desk) (listOn desk) (wordsOn desk words) room)) old
+    cond (eqb k compileStep) (compiledFrom (compiling memorySize (taskOn desk words) room)) old
 
 -- the stream buffer
 unfoldable pub streamAfter : ℕ → List ℕ → List ℕ → List ℕ → List ℕ
 streamAfter k desk words stream =
-    cond (eqb k compileStep) (bufferAfter memorySize (screenOn desk) (listOn desk) (wordsOn desk words) stream) stream
+    cond (eqb k compileStep) (bufferAfter memorySize (taskOn desk words) stream) stream
 
 -- what is played: the stream in the length that compiling gave
 abbrev pub streamOn : Compiled → List ℕ → List ℕ

@@ -4,7 +4,6 @@
 // The desk holds the screen record, from byte 32 on a command, at 64 how many commands there are (0 or 1), at 68 how many host
 // words.
 ghost use mathlib.Core.Path.{_≡_};
-ghost use Prim.Native.Nat.{min};
 ghost use lib.ListN.{length, replicate};
 ghost use Rattle.compiler.specs.Compile.{compilingOf};
 ghost use Rattle.script.specs.Steps.{deskAfter, wordsAfter, streamPatched, keeps, keptAfter, memoryAfter, compiledAfter, streamAfter, playedAfter, memoryPlayed};
@@ -109,13 +108,6 @@ pub fn set_memory(k: u32, line: &[u8], memory: &mut [u8; 262144])
     }
 }
 
-// The smaller of two numbers.
-fn least(a: usize, b: usize) -> usize
-    ensures { λ r. ⌜ r ≡ min a b ⌝ }
-{
-    if a < b { a } else { b }
-}
-
 // Compiles what is on the desk, at a step that says so; else the old answer.
 pub fn compile(
     k: u32,
@@ -132,7 +124,7 @@ pub fn compile(
     }
     let bytes = &desk[..];
     let all = &words[..];
-    let n = least(script_code::number_at(bytes, WORDS) as usize, all.len());
+    let n = record_code::least(script_code::number_at(bytes, WORDS) as usize, all.len());
     let end = 32 + 32 * (script_code::number_at(bytes, COMMANDS) % 2) as usize;
     compiler_code::compile_into(&bytes[..32], &bytes[32..end], &all[..n], stream)
 }
@@ -162,6 +154,6 @@ pub fn play(
         return old;
     }
     let all = &stream[..];
-    let n = least(size_of(c) as usize, all.len());
+    let n = record_code::least(size_of(c) as usize, all.len());
     chip_code::play(&all[..n], memory)
 }

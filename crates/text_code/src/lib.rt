@@ -3,18 +3,10 @@ mod reasons;
 
 ghost use mathlib.Core.Path.{_≡_};
 ghost use mathlib.Core.List.{_++_};
-ghost use Prim.Native.Nat.{min};
 ghost use Rattle.text.specs.Text.{letters, decimal, Stored};
 ghost use Rattle.text.specs.Refusal.{reason, refusalLine};
 use reasons::REASONS;
 use reasons::STARTS;
-
-// The smaller of two numbers.
-pub fn least(a: usize, b: usize) -> usize
-    ensures { λ r. ⌜ r ≡ min a b ⌝ }
-{
-    if a < b { a } else { b }
-}
 
 // Stores bytes at `at`; answers the place behind them.
 pub fn put(text: &mut [u8], at: usize, bytes: &[u8]) -> usize
@@ -23,7 +15,7 @@ pub fn put(text: &mut [u8], at: usize, bytes: &[u8]) -> usize
     if text.len() < at {
         return text.len();
     }
-    let n = least(bytes.len(), text.len() - at);
+    let n = record_code::least(bytes.len(), text.len() - at);
     let mut i = 0;
     while i < n {
         text[at + i] = bytes[i];

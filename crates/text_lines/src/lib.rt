@@ -8,7 +8,6 @@ ghost use Rattle.io.specs.Digits.{digits, glyph};
 ghost use Rattle.text.specs.Text.{Stored};
 ghost use Rattle.text.specs.Lines.{joined, recordLine, streamLine, hexByte, wordOf};
 use record::Record;
-use text_code::least;
 use text_code::put;
 
 // The letter of a number's last hexadecimal digit.
@@ -60,7 +59,7 @@ pub fn put_lines(stream: &[u8], text: &mut [u8]) -> usize
     ensures { λ r. ⌜ Counts r (now (text .exit)) ⌝ }
     ensures { λ r. ⌜ now (text .exit) ≡ sets (now (text .entry)) 0 (joined (streamLine (now (stream .entry))) (min (length (now (stream .entry)) / 8) (length (now (text .entry)) / 18))) ⌝ }
 {
-    let n = least(stream.len() / 8, text.len() / 18);
+    let n = record_code::least(stream.len() / 8, text.len() / 18);
     let mut i = 0;
     while i < n {
         let r = record_code::record_at(stream, i);
@@ -76,7 +75,7 @@ pub fn put_bytes(bytes: &[u8], text: &mut [u8]) -> usize
     ensures { λ r. ⌜ Counts r (now (text .exit)) ⌝ }
     ensures { λ r. ⌜ now (text .exit) ≡ sets (now (text .entry)) 0 (joined (hexByte (now (bytes .entry))) (min (length (now (bytes .entry))) (length (now (text .entry)) / 3))) ⌝ }
 {
-    let n = least(bytes.len(), text.len() / 3);
+    let n = record_code::least(bytes.len(), text.len() / 3);
     let mut i = 0;
     while i < n {
         let b = record_code::wide(bytes[i]);
@@ -93,7 +92,7 @@ pub fn words_of(bytes: &[u8], words: &mut [u16]) -> usize
     ensures { λ r. ⌜ Counts r (now (words .exit)) ⌝ }
     ensures { λ r. ⌜ now (words .exit) ≡ sets (now (words .entry)) 0 (joined (wordOf (now (bytes .entry))) (min (length (now (bytes .entry)) / 2) (length (now (words .entry))))) ⌝ }
 {
-    let n = least(bytes.len() / 2, words.len());
+    let n = record_code::least(bytes.len() / 2, words.len());
     let mut i = 0;
     while i < n {
         words[i] = record_code::u16_at(bytes, 2 * i);

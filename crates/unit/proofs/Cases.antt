@@ -12,18 +12,21 @@ use Rattle.screen.specs.Screen.{fieldsOf, wellFormed, panelOk, viewWidth, viewH
 use Rattle.screen.specs.Values.{windowX, windowY, originOf, valuesOf}
 use Rattle.screen.specs.Cases.{allHold, screenCases}
 use Rattle.blit.specs.Blit.{pixels, chipLine, chipLines, chipBlit}
+use Rattle.blit.specs.Job.{blitOf}
 use Rattle.blit.specs.Words.{wordPixel, hostPixel, chipWord}
 use Rattle.chip.specs.Register.{listed, fits, screenAfter, blitAfter}
-use Rattle.chip.specs.Start.{startable, span, within, fillOf, moveOf, writeOf, started}
+use Rattle.chip.specs.Start.{startable, span, within, sourceFits, mixBy, fromBy, jobOf, writeOf, started}
 use Rattle.chip.specs.Admit.{admitRows, refusal as admit·refusal, dueAfter, dueOf, chipAfter, effect}
 use Rattle.chip.specs.Play.{newChip, run, applied, ending, playing, played}
-use Rattle.command.specs.Command.{commandOf, surfaceOf, unusedZero, formed, insideImage, placed, lineWords, wordsTaken, commandRows, refusal}
+use Rattle.command.specs.Command.{commandOf, commandBytes, surfaceOf, mustBeZero, formed, insideImage, placed, lineWords, wordsTaken, commandRows, refusal}
 use Rattle.command.specs.Values.{addressOf, destinationOf, sourceOf, isNegative, lastColumn, lastLine, commandValue, sourceValue, destinationValue, controlValue, blitValues}
-use Rattle.compiler.specs.Stream.{partsFrom, partsOf, recordsWith, screenRecords, dataRecords, commandRecords, drawRecords, recordsFor}
-use Rattle.compiler.specs.Compile.{listRows, firstRefusal, allWords, endRows, refusalOf, compiling, streamOf}
-use Rattle.unit.specs.Sheet.{sheetPixel, hostPixel as sheet·hostPixel, newPixel, changes, sheetByte, sheetCommand, sheetCommands, sheetAfter}
+use Rattle.record.specs.Lists.{partsFrom, partsOf}
+use Rattle.compiler.specs.Stream.{recordsWith, screenRecords, dataRecords, commandRecords, drawRecords, recordsFor}
+use Rattle.command.specs.Task.{listRows, firstRefusal, allWords, wordRows, taskRefusal}
+use Rattle.compiler.specs.Compile.{roomRows, refusalOf, compiling, streamOf}
+use Rattle.unit.specs.Sheet.{sheetPixel, hostPixel as sheet·hostPixel, sheetSource, sheetMix, newPixel, changes, sheetByte, sheetCommand, sheetCommands, sheetAfter}
 use Rattle.unit.specs.Cases.{drawCases, cases}
 
 pub cases-hold : allHold cases ≡ true
-unfolding allZero firstOf recordBytes streamBytes recordAt recordsFrom recordsOf isDepth getPixel putPixel byteOf bitwise imageEnd startOf fieldsOf wellFormed panelOk viewWidth viewHeight wholeDwords mainImage windowImage imageOk windowOk windowWhole fieldRows screenRows screenOf windowX windowY originOf valuesOf allHold screenCases pixels chipLine chipLines chipBlit wordPixel hostPixel chipWord listed fits screenAfter blitAfter startable span within fillOf moveOf writeOf started admitRows admit·refusal dueAfter dueOf chipAfter effect newChip run applied ending playing played commandOf surfaceOf unusedZero formed insideImage placed lineWords wordsTaken commandRows refusal addressOf destinationOf sourceOf isNegative lastColumn lastLine commandValue sourceValue destinationValue controlValue blitValues partsFrom partsOf recordsWith screenRecords dataRecords commandRecords drawRecords recordsFor listRows firstRefusal allWords endRows refusalOf compiling streamOf sheetPixel sheet·hostPixel newPixel changes sheetByte sheetCommand sheetCommands sheetAfter drawCases cases
+unfolding allZero firstOf recordBytes streamBytes recordAt recordsFrom recordsOf isDepth getPixel putPixel byteOf bitwise imageEnd startOf fieldsOf wellFormed panelOk viewWidth viewHeight wholeDwords mainImage windowImage imageOk windowOk windowWhole fieldRows screenRows screenOf windowX windowY originOf valuesOf allHold screenCases pixels chipLine chipLines chipBlit wordPixel hostPixel chipWord listed fits screenAfter blitAfter startable span within sourceFits mixBy fromBy jobOf blitOf writeOf started admitRows admit·refusal dueAfter dueOf chipAfter effect newChip run applied ending playing played commandOf commandBytes surfaceOf mustBeZero formed insideImage placed lineWords wordsTaken commandRows refusal addressOf destinationOf sourceOf isNegative lastColumn lastLine commandValue sourceValue destinationValue controlValue blitValues partsFrom partsOf recordsWith screenRecords dataRecords commandRecords drawRecords recordsFor listRows firstRefusal allWords wordRows taskRefusal roomRows refusalOf compiling streamOf sheetPixel sheet·hostPixel sheetSource sheetMix newPixel changes sheetByte sheetCommand sheetCommands sheetAfter drawCases cases
 cases-hold = refl

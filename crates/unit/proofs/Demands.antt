@@ -8,6 +8,7 @@ use lib.Dec.{eqb}
 use lib.ListN.{length, take, drop}
 use lib.Seq.{take-append-seam}
 use borrow.Author.Tests.{eq-eqb, ne-eqb}
+use Rattle.record.specs.Lists.{AllBelow}
 use Rattle.record.specs.Record.{streamBytes, recordsOf}
 use Rattle.record.specs.declared.Record.{Record}
 use Rattle.record.proofs.Stores.{length-stream}
@@ -19,15 +20,17 @@ use Rattle.screen.specs.declared.ScreenValues.{ScreenValues}
 use Rattle.screen.proofs.Read.{accepts, read-accepted}
 use Rattle.view.proofs.Demand.{demand-2 as view·demand-2}
 use Rattle.reader.specs.Read.{reading, displayOf}
-use Rattle.compiler.specs.Stream.{partsOf, drawRecords, recordsFor}
-use Rattle.compiler.specs.Compile.{commandSize, Compiling, compiling, streamOf, bufferAfter}
-use Rattle.compiler.proofs.Accepted.{Accepted, compiled-says}
+use Rattle.command.specs.Task.{Task, screenIn, commandsIn, taskRefusal}
+use Rattle.command.proofs.Task.{Accepted}
+use Rattle.compiler.specs.Stream.{drawRecords, recordsIn}
+use Rattle.compiler.specs.Compile.{Compiling, compiling, streamOf, bufferAfter}
+use Rattle.compiler.proofs.Accepted.{compiled-says}
 use Rattle.chip.specs.Play.{Playing, newChip, playing, played}
 use Rattle.chip.proofs.Answers.{acceptedBy}
 use Rattle.chip.proofs.Commands.{quiet}
 use Rattle.chip.proofs.Plays.{Plays, plays-accepted, plays-played}
 use Rattle.unit.specs.Sheet.{sheetCommands, sheetAfter, sheetShows}
-use Rattle.unit.specs.Demands.{AllBelow, Demand1, Demand2, Demand3, DrawnTruly, streamGiven, displayGiven}
+use Rattle.unit.specs.Demands.{Demand1, Demand2, Demand3, InBytes, DrawnTruly, streamGiven, displayGiven}
 use Rattle.unit.proofs.Tables.{compile-decided, play-decided, read-decided}
 use Rattle.unit.proofs.Listed.{Ends}
 use Rattle.unit.proofs.Points.{reads-sheet}
@@ -42,7 +45,7 @@ unfolding bufferAfter played
 demand-1 =
     record {
       compiled = compile-decided memorySize;
-      stream-kept = λ bytes list words old h. kept (compiling memorySize bytes list words (length old) .number) _ _ h;
+      stream-kept = λ t old h. kept (compiling memorySize t (length old) .number) _ _ h;
       plays = play-decided memorySize;
       memory-kept = λ stream memory h. kept (playing memorySize stream memory .number) _ _ h;
       reads = read-decided memorySize;
@@ -55,91 +58,81 @@ demand-2 bytes p q e hp hq =
     view·demand-2 memorySize (fieldsOf bytes) (r .2) p q hp hq
 
 -- ---- demand 3
-module _ (bytes list words buffer : List ℕ) (e : compiling memorySize bytes list words (length buffer) .number ≡ 0) where
-  abbrev records : List Record
-  records = recordsFor (fieldsOf bytes) (partsOf commandSize list) words
-
+module _ (t : Task) (buffer : List ℕ) (e : compiling memorySize t (length buffer) .number ≡ 0) where
   -- the stream that playing is given
-  pub stream-is : streamGiven bytes list words buffer ≡ streamBytes records
+  pub stream-is : streamGiven t buffer ≡ streamBytes (recordsIn t)
   unfolding bufferAfter streamOf
   stream-is =
       ap₂ (λ (n : ℕ) (b : List ℕ). take n b)
-      (ap (λ (c : Compiling). c .length) (compiled-says memorySize bytes list words (length buffer) e .given) ∙ sym (length-stream records))
-      (rw (eq-eqb (compiling memorySize bytes list words (length buffer) .number) 0 e) refl)
-      ∙ take-append-seam (streamBytes records) (drop (length (streamBytes records)) buffer)
+      (ap (λ (c : Compiling). c .length) (compiled-says memorySize t (length buffer) e .given) ∙ sym (length-stream (recordsIn t)))
+      (rw (eq-eqb (compiling memorySize t (length buffer) .number) 0 e) refl)
+      ∙ take-append-seam (streamBytes (recordsIn t)) (drop (length (streamBytes (recordsIn t))) buffer)
 
-module _ (bytes list words buffer memory : List ℕ) (byte-list : AllBelow 256 list) (word-list : AllBelow 65536 words) (byte-memory : AllBelow 256 memory)
-    (len : length memory ≡ memorySize) (e : compiling memorySize bytes list words (length buffer) .number ≡ 0) where
+module _ (t : Task) (buffer memory : List ℕ) (below : InBytes t) (byte-memory : AllBelow 256 memory) (len : length memory ≡ memorySize)
+    (e : compiling memorySize t (length buffer) .number ≡ 0) where
   abbrev s : Screen
-  s = fieldsOf bytes
-
-  abbrev commands : List (List ℕ)
-  commands = partsOf commandSize list
-
-  abbrev rs : List Record
-  rs = recordsFor s commands words
+  s = screenIn t
 
   abbrev stream : List ℕ
-  stream = streamGiven bytes list words buffer
+  stream = streamGiven t buffer
 
   abbrev sheet : List ℕ
-  sheet = sheetCommands s commands words memory
+  sheet = sheetCommands s (commandsIn t) (t .words) memory
 
   limit : memorySize ≤ 262144
   limit = omega arith
 
-  known : Accepted memorySize bytes list words (length buffer)
-  known = compiled-says memorySize bytes list words (length buffer) e
+  known : Accepted memorySize t
+  known = compiled-says memorySize t (length buffer) e .task
 
-  ends : Ends memorySize (quiet (valuesOf s) (newChip .blit)) (drawRecords s words commands) memory sheet
-  ends = rest-ends memorySize limit bytes list words (length buffer) known byte-list word-list memory len
+  ends : Ends memorySize (quiet (valuesOf s) (newChip .blit)) (drawRecords s (t .words) (commandsIn t)) memory sheet
+  ends = rest-ends memorySize limit t known (below .list) (below .words) memory len
 
-  whole : Plays memorySize newChip rs memory (ends .chip) sheet
+  whole : Plays memorySize newChip (recordsIn t) memory (ends .chip) sheet
   unfolding ends
-  whole = whole-plays memorySize limit bytes list words (length buffer) known byte-list word-list memory len
+  whole = whole-plays memorySize limit t known (below .list) (below .words) memory len
 
-  back : recordsOf stream ≡ rs
-  back = ap recordsOf (stream-is bytes list words buffer e) ∙ records-back rs (plays-small memorySize newChip (ends .chip) rs memory sheet whole)
+  back : recordsOf stream ≡ recordsIn t
+  back = ap recordsOf (stream-is t buffer e) ∙ records-back (recordsIn t) (plays-small memorySize newChip (ends .chip) (recordsIn t) memory sheet whole)
 
   plays : Plays memorySize newChip (recordsOf stream) memory (ends .chip) sheet
   plays = subst (λ (x : List Record). Plays memorySize newChip x memory (ends .chip) sheet) (sym back) whole
 
   cut : length stream % 8 ≡ 0
-  cut = ap (λ (x : List ℕ). length x % 8) (stream-is bytes list words buffer e) ∙ omega (arith, length-stream rs)
+  cut = ap (λ (x : List ℕ). length x % 8) (stream-is t buffer e) ∙ omega (arith, length-stream (recordsIn t))
 
   playing-is : playing memorySize stream memory ≡ acceptedBy (ends .chip .screen)
   playing-is = plays-accepted memorySize stream memory len cut plays (ends .idle)
 
-  sheet-is : sheetAfter memorySize bytes list words (length buffer) memory ≡ sheet
+  sheet-is : sheetAfter memorySize t memory ≡ sheet
   unfolding sheetAfter
-  sheet-is = rw (eq-eqb (compiling memorySize bytes list words (length buffer) .number) 0 e) refl
+  sheet-is = rw (eq-eqb (taskRefusal memorySize t .number) 0 (known .number)) refl
 
   memory-is : played memorySize stream memory ≡ sheet
   memory-is = plays-played memorySize stream memory len cut plays (ends .idle)
 
-  display-is : displayGiven bytes list words buffer ≡ displayOf s
+  display-is : displayGiven t buffer ≡ displayOf s
   unfolding displayOf
   display-is =
-      λ t.
-      let c = compiled-says memorySize bytes list words (length buffer) e .given t in
+      λ i.
+      let c = compiled-says memorySize t (length buffer) e .given i in
       record { depth = c .depth; rotation = c .rotation; flag = c .flag; width = s .width; height = s .height }
 
   -- the last six screen values are the screen's own
   pub values-given : playing memorySize stream memory .values ≡ valuesOf s
   values-given = ap (λ (x : Playing). x .values) playing-is ∙ ends .screen
 
-  drawn-truly : DrawnTruly bytes list words buffer memory
+  drawn-truly : DrawnTruly t buffer memory
   drawn-truly =
       record {
         not-refused = ap (λ (x : Playing). x .number) playing-is;
         same-bytes = memory-is ∙ sym sheet-is;
         same-colours = λ p q hp hq.
-            (λ t. reading memorySize (display-is t) (playing-is t .values) p q (memory-is t))
+            (λ i. reading memorySize (display-is i) (playing-is i .values) p q (memory-is i))
             ∙ ap (λ (v : ScreenValues). reading memorySize (displayOf s) v p q sheet) (ends .screen)
-            ∙ reads-sheet memorySize s (known .fields) (known .flag) limit sheet (sheet-length s commands words memory ∙ len) (sheet-bytes s commands words memory byte-memory) p q hp hq
+            ∙ reads-sheet memorySize s (known .fields) (known .flag) limit sheet (sheet-length s (commandsIn t) (t .words) memory ∙ len) (sheet-bytes s (commandsIn t) (t .words) memory byte-memory) p q hp hq
             ∙ ap (λ (x : List ℕ). record { number = 0; place = 0; colour = sheetShows s x p q }) (sym sheet-is);
       }
 
 pub demand-3 : Demand3
-demand-3 bytes list words buffer memory byte-screen byte-list word-list byte-memory len e =
-    drawn-truly bytes list words buffer memory byte-list word-list byte-memory len e
+demand-3 t buffer memory below byte-memory len e = drawn-truly t buffer memory below byte-memory len e

@@ -1,28 +1,28 @@
 -- Drawing in one call: what compiling and playing give together, in terms of the sheet.
-use mathlib.Core.Path.{_≡_, refl, sym, ap, subst, _∙_}
+use mathlib.Core.Path.{_≡_, refl, sym, ap, _∙_}
 use mathlib.Core.Bool.{Bool, true, false, true≢false}
 use mathlib.Core.List.{List}
 use Prim.Native.Nat.{ℕ, _-_, _≤_}
 use native.Mathlib.Nat.{sub-zero}
 use native.Mathlib.Omega.{arith}
-use lib.Dec.{eqb}
 use lib.ListN.{length, take}
 use borrow.Author.Tests.{eq-eqb, ne-eqb}
-use Rattle.screen.specs.Screen.{memorySize, fieldsOf}
+use Rattle.record.specs.Lists.{AllBelow}
+use Rattle.screen.specs.Screen.{memorySize}
 use Rattle.screen.specs.Values.{valuesOf}
 use Rattle.screen.specs.declared.ScreenValues.{ScreenValues}
 use Rattle.record.specs.Record.{streamBytes}
 use Rattle.record.proofs.Stores.{length-stream, length-over}
-use Rattle.compiler.specs.Stream.{partsOf, recordsFor}
-use Rattle.compiler.specs.Compile.{commandSize, streamOf, Compiling, compiling, bufferAfter, compilingOf, answerOf}
+use Rattle.command.specs.Task.{Task, screenIn}
+use Rattle.compiler.specs.Stream.{recordsIn}
+use Rattle.compiler.specs.Compile.{streamOf, Compiling, compiling, bufferAfter, compilingOf, answerOf}
 use Rattle.compiler.specs.declared.Compiled.{Compiled}
 use Rattle.compiler.specs.declared.Compiled.the-variants as compiled
 use Rattle.compiler.proofs.Accepted.{compiled-says}
 use Rattle.chip.specs.Play.{Playing, playing, played, playingOf, answerOf as chip·answerOf}
 use Rattle.chip.specs.declared.Played.{Played}
 use Rattle.chip.specs.declared.Played.the-variants as played
-use Rattle.unit.specs.Sheet.{sheetAfter}
-use Rattle.unit.specs.Demands.{AllBelow, DrawnTruly, streamGiven}
+use Rattle.unit.specs.Demands.{InBytes, DrawnTruly, streamGiven}
 use Rattle.unit.specs.Draw.{Drawing, refusedBy, drawing, memoryDrawn, streamDrawn, drawingOf, answerOf as unit·answerOf}
 use Rattle.unit.specs.declared.Drawn.{Drawn}
 use Rattle.unit.specs.declared.Drawn.the-variants.{Accepted, Refused}
@@ -59,17 +59,17 @@ accepted-answer : (n : ℕ) (v : ScreenValues) (d : Drawing) → drawingOf (Acce
 unfolding drawingOf unit·answerOf
 accepted-answer n v d e = (e, rw (← e) refl)
 
-module _ (bytes list words old memory : List ℕ) where
+module _ (t : Task) (old memory : List ℕ) where
   -- an answer, a stream buffer and a memory that are what drawing promises
   abbrev pub Drew : Drawn → List ℕ → List ℕ → Type 0
   Drew r stream new =
-      (drawingOf r ≡ drawing memorySize bytes list words (length old) memory)
-      × ((r ≡ unit·answerOf (drawing memorySize bytes list words (length old) memory))
-      × ((stream ≡ streamDrawn memorySize bytes list words old memory)
-      × (new ≡ memoryDrawn memorySize bytes list words (length old) memory)))
+      (drawingOf r ≡ drawing memorySize t (length old) memory)
+      × ((r ≡ unit·answerOf (drawing memorySize t (length old) memory))
+      × ((stream ≡ streamDrawn memorySize t old memory)
+      × (new ≡ memoryDrawn memorySize t (length old) memory)))
 
   abbrev c : Compiling
-  c = compiling memorySize bytes list words (length old)
+  c = compiling memorySize t (length old)
 
   -- a memory of another size
   pub other-size : (length memory ≡ memorySize → ⊥) → Drew (Refused 18 0) old memory
@@ -78,15 +78,15 @@ module _ (bytes list words old memory : List ℕ) where
       rw (ne-eqb (length memory) memorySize n)
       (let a = refused-answer 18 0 (refusedBy 18 0) (λ z. omega arith) refl in (a .0, (a .1, (refl, refl))))
 
-  module _ (len : length memory ≡ memorySize) (stream : List ℕ) (buffer : stream ≡ bufferAfter memorySize bytes list words old) where
+  module _ (len : length memory ≡ memorySize) (stream : List ℕ) (buffer : stream ≡ bufferAfter memorySize t old) where
     -- compiling refuses
     pub compile-refused : (n i : ℕ) → compilingOf (compiled.Refused n i) ≡ c → compiled.Refused n i ≡ answerOf c → Drew (Refused n i) stream memory
-    unfolding drawing streamDrawn memoryDrawn drawingOf sheetAfter compilingOf
+    unfolding drawing streamDrawn memoryDrawn drawingOf compilingOf
     compile-refused n i e f =
         let some = ne-eqb (c .number) 0 (refused-number n i c f) in
         let a = refused-answer n i (refusedBy (c .number) (c .place)) (λ z. refused-number n i c f (sym (ap (λ (x : Compiling). x .number) e) ∙ z))
-        (λ t. refusedBy (e t .number) (e t .place)) in
-        rw (eq-eqb (length memory) memorySize len, some) (a .0, (a .1, (buffer, refl)))
+        (λ k. refusedBy (e k .number) (e k .place)) in
+        rw (eq-eqb (length memory) memorySize len, some, some) (a .0, (a .1, (buffer, refl)))
 
     module _ (n d r f : ℕ) (e : compilingOf (compiled.Accepted n d r f) ≡ c) where
       none : c .number ≡ 0
@@ -101,20 +101,18 @@ module _ (bytes list words old memory : List ℕ) where
       pub part-fits : n ≤ length stream
       unfolding bufferAfter streamOf
       part-fits =
-          let a = compiled-says memorySize bytes list words (length old) none in
-          let records = recordsFor (fieldsOf bytes) (partsOf commandSize list) words in
-          let room : length (streamBytes records) ≤ length old = omega (arith, length-stream records, a .fits) in
-          let kept : length stream ≡ length old = ap length buffer ∙ rw (eq-eqb (c .number) 0 none) (length-over old (streamBytes records) room) in
+          let a = compiled-says memorySize t (length old) none in
+          let room : length (streamBytes (recordsIn t)) ≤ length old = omega (arith, length-stream (recordsIn t), a .fits) in
+          let kept : length stream ≡ length old = ap length buffer ∙ rw (eq-eqb (c .number) 0 none) (length-over old (streamBytes (recordsIn t)) room) in
           omega (arith, kept, a .fits, size, ap (λ (x : Compiling). x .length) (a .given))
 
-      module _ (byte-screen : AllBelow 256 bytes) (byte-list : AllBelow 256 list) (word-list : AllBelow 65536 words) (byte-memory : AllBelow 256 memory)
-          (part : List ℕ) (cut : part ≡ take (n - 0) stream) where
+      module _ (below : InBytes t) (byte-memory : AllBelow 256 memory) (part : List ℕ) (cut : part ≡ take (n - 0) stream) where
         -- the part that is played is the stream in the length that compiling gave
-        given : part ≡ streamGiven bytes list words old
-        given = cut ∙ ap (λ (k : ℕ). take k stream) (sub-zero n) ∙ (λ t. take (size t) (buffer t))
+        given : part ≡ streamGiven t old
+        given = cut ∙ ap (λ (k : ℕ). take k stream) (sub-zero n) ∙ (λ k. take (size k) (buffer k))
 
-        truly : DrawnTruly bytes list words old memory
-        truly = demand-3 bytes list words old memory byte-screen byte-list word-list byte-memory len none
+        truly : DrawnTruly t old memory
+        truly = demand-3 t old memory below byte-memory len none
 
         zero : playing memorySize part memory .number ≡ 0
         zero = ap (λ (x : List ℕ). playing memorySize x memory .number) given ∙ truly .not-refused
@@ -127,10 +125,10 @@ module _ (bytes list words old memory : List ℕ) where
             → Drew (Accepted n v) stream new
         unfolding drawing streamDrawn memoryDrawn drawingOf playingOf
         draw-accepted v new p m =
-            let values : v ≡ valuesOf (fieldsOf bytes) =
+            let values : v ≡ valuesOf (screenIn t) =
             ap (λ (x : Playing). x .values) p ∙ ap (λ (x : List ℕ). playing memorySize x memory .values) given
-            ∙ values-given bytes list words old memory byte-list word-list byte-memory len none in
-            let a = accepted-answer n v (record { number = 0; place = 0; length = c .length; values = valuesOf (fieldsOf bytes) })
-            (λ t. record { number = 0; place = 0; length = size t; values = values t }) in
+            ∙ values-given t old memory below byte-memory len none in
+            let a = accepted-answer n v (record { number = 0; place = 0; length = c .length; values = valuesOf (screenIn t) })
+            (λ k. record { number = 0; place = 0; length = size k; values = values k }) in
             rw (eq-eqb (length memory) memorySize len, eq-eqb (c .number) 0 none)
             (a .0, (a .1, (buffer, m ∙ ap (λ (x : List ℕ). played memorySize x memory) given ∙ truly .same-bytes)))

@@ -1,5 +1,5 @@
 -- A command that is not refused, on an accepted screen, is one that the chip can draw.
-use mathlib.Core.Path.{_≡_, refl, ap, _∙_}
+use mathlib.Core.Path.{_≡_, refl, ap}
 use mathlib.Core.Bool.{Bool, true, false, cond}
 use mathlib.Core.List.{List}
 use mathlib.Core.Logic.{inl, inr, ⊎-elim}
@@ -7,6 +7,7 @@ use Prim.Native.Nat.{ℕ, _+_, _-_, _*_, _/_, _%_, _≤_}
 use native.Mathlib.Omega.{arith}
 use lib.Dec.{eqb}
 use borrow.Author.Tests.{eqb-false}
+use Rattle.record.specs.Lists.{AllBelow}
 use Rattle.record.specs.Checks.{firstOf}
 use Rattle.pixel.specs.Depth.{isDepth}
 use Rattle.pixel.proofs.Depth.{depth, factor-le}
@@ -14,13 +15,13 @@ use Rattle.screen.specs.Image.{lineBytes, imageEnd}
 use Rattle.screen.specs.Screen.{mainImage, windowImage, fieldRows}
 use Rattle.screen.specs.declared.Image.{Image}
 use Rattle.screen.specs.declared.Screen.{Screen}
-use Rattle.screen.proofs.Accepted.{Aligned, accepted, window-limits, main-aligned, main-sides, window-sides, main-line, window-line}
+use Rattle.screen.proofs.Accepted.{Aligned, accepted, window-limits, main-aligned, main-sides, window-sides}
+use Rattle.screen.proofs.Starts.{in-line, line-short}
 use Rattle.command.specs.Command.{commandOf, surfaceOf}
 use Rattle.command.specs.declared.Command.{Command}
 use Rattle.command.proofs.Fine.{Fine}
-use Rattle.unit.specs.Demands.{AllBelow}
 use Rattle.unit.proofs.Painted.{OneOrTwo}
-use Rattle.unit.proofs.Started.{Drawable}
+use Rattle.unit.proofs.Registers.{Drawable}
 
 -- a depth from 8 on is one or two whole bytes
 whole-bytes : (d : ℕ) → isDepth d ≡ true → 8 ≤ d → (d ≡ 8 * (d / 8)) × OneOrTwo (d / 8)
@@ -36,19 +37,21 @@ whole-bytes d h deep =
 pub record Surface (m B : ℕ) (i : Image) : Type 0 where
   pub narrow : i .width ≤ 1024
   pub low : i .height ≤ 1024
-  pub line : i .line ≡ i .width * B
+  pub shown : i .width * B ≤ i .line
+  pub short : i .line ≤ 4092
   pub whole : i .line % 4 ≡ 0
   pub base : i .base % 4 ≡ 0
   pub ends : i .base + (i .height - 1) * i .line + i .width * B ≤ m
 
-surface : (m d k : ℕ) (i : Image) → d ≡ 8 * (d / 8) → Aligned k d i → i .width ≤ 1024 → i .height ≤ 1024 → i .line ≡ lineBytes d (i .width) → imageEnd d i ≤ m → Surface m (d / 8) i
+surface : (m d k : ℕ) (i : Image) → d ≡ 8 * (d / 8) → Aligned k d i → i .width ≤ 1024 → i .height ≤ 1024 → imageEnd d i ≤ m → Surface m (d / 8) i
 unfolding imageEnd
-surface m d k i deep a narrow low line ends =
-    let bytes : i .width * d / 8 ≡ i .width * (d / 8) = omega (arith, ap (λ (n : ℕ). i .width * n) deep) in
+surface m d k i deep a narrow low ends =
+    let bytes : lineBytes d (i .width) ≡ i .width * (d / 8) = omega (arith, ap (λ (n : ℕ). i .width * n) deep) in
     record {
       narrow = narrow;
       low = low;
-      line = line ∙ bytes;
+      shown = omega (arith, bytes, in-line k d i a);
+      short = line-short k d i a;
       whole = omega (arith, a .line-is);
       base = omega (arith, a .base-is);
       ends = omega (arith, ends, bytes);
@@ -62,13 +65,13 @@ module _ (m : ℕ) (s : Screen) (e : firstOf (fieldRows m s) ≡ 0) (flag : s .f
   main-surface =
       let a = accepted m s e in
       let g = main-sides m s a in
-      surface m (s .depth) _ (mainImage s) bytes (main-aligned m s a) (g .2) (g .3) (main-line s) (a .ends)
+      surface m (s .depth) _ (mainImage s) bytes (main-aligned m s a) (g .2) (g .3) (a .ends)
 
   window-surface : s .flag ≡ 1 → Surface m (s .depth / 8) (windowImage s)
   window-surface on =
       let w = window-limits m s e on in
       let g = window-sides m s e on in
-      surface m (s .depth) _ (windowImage s) bytes (w .image) (g .2) (g .3) (window-line s) (w .ends)
+      surface m (s .depth) _ (windowImage s) bytes (w .image) (g .2) (g .3) (w .ends)
 
   -- the surface that a command names
   pub surface-ok : (c : Command) → c .surface ≤ s .flag → Surface m (s .depth / 8) (surfaceOf s c)
@@ -101,7 +104,8 @@ module _ (m : ℕ) (s : Screen) (e : firstOf (fieldRows m s) ≡ 0) (flag : s .f
         colour = colour-fits b bound;
         narrow = o .narrow;
         low = o .low;
-        line = o .line;
+        shown = o .shown;
+        short = o .short;
         whole = o .whole;
         base = o .base;
         ends = o .ends;

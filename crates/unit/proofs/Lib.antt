@@ -3,7 +3,10 @@ pub mod Sheets
 pub mod Shown
 pub mod Rectangles
 pub mod Painted
-pub mod Started
+pub mod Registers
+pub mod Fill
+pub mod Move
+pub mod Write
 pub mod Tables
 pub mod Drawable
 pub mod Listed

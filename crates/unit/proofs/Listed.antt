@@ -4,35 +4,40 @@ use mathlib.Core.Path.{_≡_, refl, sym, ap, ap₂, subst, _∙_}
 use mathlib.Core.Bool.{Bool, true, false}
 use mathlib.Core.List.{List, [], _∷_, _++_, append-nil}
 use mathlib.Core.Logic.{_⊎_, inl, inr, ⊎-elim}
-use Prim.Native.Nat.{ℕ, zero, suc, _+_, _-_, _*_, _/_, _≤_, _<_}
+use Prim.Native.Nat.{ℕ, suc, _+_, _-_, _*_, _/_, _≤_, _<_}
 use native.Mathlib.Omega.{arith}
 use native.Mathlib.Nat.{mul-comm}
-use lib.ListN.{length, getD, take, drop, length-drop, length-take}
-use lib.Seq.{getD-take, getD-drop, length-take-le}
+use lib.ListN.{length, take, drop, length-drop}
+use lib.Seq.{length-take-le}
 use borrow.Author.Tests.{eq-eqb, ne-eqb}
+use Rattle.record.specs.Lists.{AllBelow}
 use Rattle.record.specs.Checks.{firstOf}
 use Rattle.record.specs.declared.Record.{Record}
 use Rattle.record.proofs.Choice.{below-or-not, yes, no}
+use Rattle.record.proofs.Lists.{length-tabulate, EachBelow, below-take, below-drop}
 use Rattle.screen.specs.Screen.{fieldRows}
 use Rattle.screen.specs.declared.Screen.{Screen}
 use Rattle.blit.specs.Words.{wordsAcross}
-use Rattle.blit.proofs.Painted.{length-tabulate}
-use Rattle.chip.specs.Start.{operation, bytesOf, widthOf, heightOf, startable, within, started}
+use Rattle.chip.specs.Start.{operation, bytesOf, widthOf, heightOf, started}
 use Rattle.chip.specs.declared.Chip.{Chip}
 use Rattle.chip.specs.declared.Registers.{Registers}
 use Rattle.chip.proofs.Plays.{Plays, plays-none, plays-append}
-use Rattle.chip.proofs.Commands.{InFields, blitWrites, wordWrites, AllWords, startedChip, quiet, blit-played, words-played}
+use Rattle.chip.proofs.Admits.{not-started}
+use Rattle.chip.proofs.Commands.{blitWrites, wordWrites, AllWords, startedChip, quiet, waiting, blit-played, words-played}
 use Rattle.command.specs.Command.{commandOf, lineWords, wordsTaken}
 use Rattle.command.specs.Values.{isNegative, blitRegisters, blitValues}
 use Rattle.command.specs.declared.Command.{Command}
+use Rattle.command.proofs.Operation.{by-fill, by-move, by-write}
 use Rattle.compiler.specs.Stream.{recordsWith, dataRecords, commandRecords, drawRecords}
-use Rattle.compiler.specs.Compile.{allWords}
-use Rattle.compiler.proofs.Commands.{AllFine}
+use Rattle.command.specs.Task.{allWords}
+use Rattle.command.proofs.Commands.{AllFine}
 use Rattle.unit.specs.Sheet.{sheetByte, sheetCommand, sheetCommands}
-use Rattle.unit.specs.Demands.{AllBelow}
 use Rattle.unit.proofs.Painted.{OneOrTwo}
 use Rattle.unit.proofs.Drawable.{drawable}
-use Rattle.unit.proofs.Started.{Drawable, blitRegistersOf, bytes-is, width-is, height-is, fill-fields, fill-startable, fill-within, fill-drawn, fill-op, up-fields, up-startable, up-within, up-drawn, up-op, down-fields, down-startable, down-within, down-drawn, down-op, write-fields, write-startable, write-within, write-drawn, write-op}
+use Rattle.unit.proofs.Registers.{Drawable, blitRegistersOf, Starts, AtOnce, bytes-is, width-is, height-is}
+use Rattle.unit.proofs.Fill.{fill-starts}
+use Rattle.unit.proofs.Move.{moveNumber, move-starts}
+use Rattle.unit.proofs.Write.{ByWords, write-starts}
 
 -- the records end at a chip that waits for no data and has the same screen registers
 pub record Ends (m : ℕ) (c : Chip) (rs : List Record) (old new : List ℕ) : Type 0 where
@@ -77,36 +82,43 @@ line-words d B width h t =
     (λ e. no _ (ne-eqb d 8 (λ q. omega arith)) (rw e (omega arith)))
     t
 
--- a write waits: it has done nothing yet
-waiting-write : (b : Registers) (old : List ℕ) → operation b ≡ 0 → started b old ≡ old
-unfolding started
-waiting-write b old e = rw e refl
+-- the words that each operation takes
+fill-words : (s : Screen) (c : Command) → c .operation ≡ 0 → wordsTaken s c ≡ 0
+unfolding wordsTaken
+fill-words s c e = by-fill (c .operation) _ _ _ e
+
+move-words : (s : Screen) (c : Command) → c .operation ≡ 1 → wordsTaken s c ≡ 0
+unfolding wordsTaken
+move-words s c e = by-move (c .operation) _ _ _ e
 
 write-words : (s : Screen) (c : Command) → c .operation ≡ 2 → wordsTaken s c ≡ lineWords (s .depth) (c .width) * c .height
 unfolding wordsTaken
-write-words s c e = rw (eq-eqb (c .operation) 2 e) refl
+write-words s c e = by-write (c .operation) _ _ _ e
 
 module _ (m B : ℕ) (s : Screen) (c : Command) (d : Drawable m B s c) (chip : Chip) (idle : chip .due .any ≡ false) where
   abbrev regs : Registers
   regs = blitRegistersOf s c
 
-  -- a fill or a move: no words
-  drawn-alone : (words old : List ℕ) → length words ≡ 0 → (f : InFields regs) → startable regs ≡ true → within m regs ≡ true → (n : ℕ) → operation regs ≡ suc n
-      → started regs old ≡ sheetCommand s c words old → Ends m chip (commandRecords s c words) old (sheetCommand s c words old)
-  drawn-alone words old none f can inside n op drawn =
+  -- its nine records
+  begun : (n : ℕ) (Does : Type 0) → Starts m s c n Does → (old : List ℕ) → Plays m chip (blitWrites regs) old (startedChip (chip .screen) regs) (started regs old)
+  begun n Does l old = blit-played m regs (l .fields) (l .startable) (l .within) chip old idle
+
+  -- a command that is drawn at once: no words
+  drawn-alone : (words old : List ℕ) → length words ≡ 0 → (n : ℕ) → (n ≡ 0 → ⊥) → Starts m s c n (AtOnce m B s c d) → length old ≡ m
+      → Ends m chip (commandRecords s c words) old (sheetCommand s c words old)
+  drawn-alone words old none n some l len =
       record {
         chip = startedChip (chip .screen) regs;
         plays =
             subst (λ (rs : List Record). Plays m chip rs old (startedChip (chip .screen) regs) (sheetCommand s c words old))
             (sym (records-are s c words ∙ ap (λ (ws : List ℕ). blitWrites regs ++ wordWrites ws) (none-left words none) ∙ ap (λ (rs : List Record). blitWrites regs ++ rs) no-writes ∙ append-nil (blitWrites regs)))
-            (subst (λ (new : List ℕ). Plays m chip (blitWrites regs) old (startedChip (chip .screen) regs) new) drawn
-            (blit-played m regs f can inside chip old idle));
-        idle = ne-eqb (operation regs) 0 (λ z. omega arith);
+            (subst (λ (new : List ℕ). Plays m chip (blitWrites regs) old (startedChip (chip .screen) regs) new) (l .does words old len) (begun n _ l old));
+        idle = ne-eqb (operation regs) 0 (λ z. some (sym (l .operation) ∙ z));
         screen = refl;
       }
 
   -- a write: its nine records, then its words
-  written-all : (words old : List ℕ) → c .operation ≡ 2 → AllBelow 65536 words → length words ≡ wordsTaken s c → length old ≡ m
+  written-all : (words old : List ℕ) → (e : c .operation ≡ 2) → AllBelow 65536 words → length words ≡ wordsTaken s c → length old ≡ m
       → Ends m chip (commandRecords s c words) old (sheetCommand s c words old)
   written-all words old e few count len =
       record {
@@ -114,43 +126,44 @@ module _ (m B : ℕ) (s : Screen) (c : Command) (d : Drawable m B s c) (chip : C
         plays =
             subst (λ (rs : List Record). Plays m chip rs old (quiet (chip .screen) regs) (sheetCommand s c words old)) (sym (records-are s c words))
             (plays-append
-            (subst (λ (x : Chip). Plays m chip (blitWrites regs) old x (started regs old)) waits (blit-played m regs (write-fields m B s c d e) (write-startable m B s c d e) (write-within m B s c d e) chip old idle))
-            (subst (λ (x : List ℕ). Plays m (record { screen = chip .screen; blit = regs; due = record { any = true; line = 0; word = 0 } }) (wordWrites words) x (quiet (chip .screen) regs) (sheetCommand s c words old)) (not-yet)
-            (subst (λ (x : List ℕ). Plays m (record { screen = chip .screen; blit = regs; due = record { any = true; line = 0; word = 0 } }) (wordWrites words) old (quiet (chip .screen) regs) x) (write-drawn m B s c d e words old len few)
+            (subst (λ (x : Chip). Plays m chip (blitWrites regs) old x (started regs old)) waits (begun 0 _ laws old))
+            (subst (λ (x : List ℕ). Plays m (waiting (chip .screen) regs 0 0) (wordWrites words) x (quiet (chip .screen) regs) (sheetCommand s c words old)) not-yet
+            (subst (λ (x : List ℕ). Plays m (waiting (chip .screen) regs 0 0) (wordWrites words) old (quiet (chip .screen) regs) x) (laws .does words old len few)
             (words-played m (chip .screen) regs words old (all-words words few) enough))));
         idle = refl;
         screen = refl;
       }
     where
-      waits : startedChip (chip .screen) regs ≡ record { screen = chip .screen; blit = regs; due = record { any = true; line = 0; word = 0 } }
-      waits = λ t. record { screen = chip .screen; blit = regs; due = record { any = eq-eqb (operation regs) 0 (write-op m B s c d e) t; line = 0; word = 0 } }
+      laws : Starts m s c 0 (ByWords m B s c d e)
+      laws = write-starts m B s c d e
+
+      waits : startedChip (chip .screen) regs ≡ waiting (chip .screen) regs 0 0
+      waits = λ t. record { screen = chip .screen; blit = regs; due = record { any = eq-eqb (operation regs) 0 (laws .operation) t; line = 0; word = 0 } }
 
       not-yet : old ≡ started regs old
-      not-yet = sym (waiting-write regs old (write-op m B s c d e))
+      not-yet = not-started regs old (laws .operation)
 
       enough : length words ≡ heightOf regs * wordsAcross (bytesOf regs) (widthOf regs)
       enough =
           count ∙ write-words s c e ∙ mul-comm (lineWords (s .depth) (c .width)) (c .height)
           ∙ sym ((λ t. height-is m B s c d t * wordsAcross (bytes-is m B s c d t) (width-is m B s c d t)) ∙ ap (λ (n : ℕ). c .height * n) (line-words (s .depth) B (c .width) (d .deep) (d .size)))
 
-  no-words : (words : List ℕ) → length words ≡ wordsTaken s c → (c .operation ≡ 2 → ⊥) → length words ≡ 0
-  unfolding wordsTaken
-  no-words words e n = e ∙ sym (no _ (ne-eqb (c .operation) 2 n) refl)
-
   pub command-ends : (words old : List ℕ) → AllBelow 65536 words → length words ≡ wordsTaken s c → length old ≡ m
       → Ends m chip (commandRecords s c words) old (sheetCommand s c words old)
   command-ends words old few count len =
       ⊎-elim
-      (λ e. drawn-alone words old (no-words words count (λ z. omega arith)) (fill-fields m B s c d e) (fill-startable m B s c d e) (fill-within m B s c d e) 11 (fill-op m B s c d e) (fill-drawn m B s c d e words old len))
-      (λ p. ⊎-elim (λ e. move (isNegative s c) e refl) (λ e. written-all words old e few count len) p)
+      (λ e. drawn-alone words old (count ∙ fill-words s c e) 12 (λ z. omega arith) (fill-starts m B s c d e) len)
+      (λ p. ⊎-elim
+      (λ e. drawn-alone words old (count ∙ move-words s c e) (moveNumber (isNegative s c)) (some-number (isNegative s c)) (move-starts m B s c d e (isNegative s c) refl) len)
+      (λ e. written-all words old e few count len) p)
       (three (c .operation) (d .operation))
     where
       three : (n : ℕ) → n ≤ 2 → (n ≡ 0) ⊎ ((n ≡ 1) ⊎ (n ≡ 2))
       three n h = ⊎-elim (λ p. inl (omega arith)) (λ p. inr (⊎-elim (λ q. inl (omega arith)) (λ q. inr (omega arith)) (below-or-not n 2))) (below-or-not n 1)
 
-      move : (t : Bool) → c .operation ≡ 1 → isNegative s c ≡ t → Ends m chip (commandRecords s c words) old (sheetCommand s c words old)
-      move false e n = drawn-alone words old (no-words words count (λ z. omega arith)) (up-fields m B s c d e n) (up-startable m B s c d e n) (up-within m B s c d e n) 1 (up-op m B s c d e n) (up-drawn m B s c d e n words old len)
-      move true e n = drawn-alone words old (no-words words count (λ z. omega arith)) (down-fields m B s c d e n) (down-startable m B s c d e n) (down-within m B s c d e n) 2 (down-op m B s c d e n) (down-drawn m B s c d e n words old len)
+      some-number : (t : Bool) → moveNumber t ≡ 0 → ⊥
+      some-number true z = omega arith
+      some-number false z = omega arith
 
 -- ---- a whole list
 pub ends-none : (m : ℕ) (c : Chip) (old : List ℕ) → c .due .any ≡ false → Ends m c [] old old
@@ -161,38 +174,15 @@ pub ends-append : (m : ℕ) (c : Chip) (xs ys : List Record) (old mid new : List
 ends-append m c xs ys old mid new p q =
     record { chip = q .chip; plays = plays-append (p .plays) (q .plays); idle = q .idle; screen = q .screen ∙ p .screen }
 
--- each command's bytes are bytes
-unfoldable pub AllBytes : List (List ℕ) → Type 0
-AllBytes [] = Unit {0}
-AllBytes (b ∷ bs) = AllBelow 256 b × AllBytes bs
-
-pub below-drop : (limit n : ℕ) (xs : List ℕ) → AllBelow limit xs → AllBelow limit (drop n xs)
-below-drop limit n xs h = λ k. subst (λ (x : ℕ). x < limit) (sym (getD-drop n xs k 0)) (h (n + k))
-
-pub nothing-past : (xs : List ℕ) (k : ℕ) → length xs ≤ k → getD xs k 0 ≡ 0
-nothing-past [] k h = refl
-nothing-past (x ∷ xs) zero h = absurd (omega arith)
-nothing-past (x ∷ xs) (suc k) h = nothing-past xs k (omega arith)
-
-pub below-take : (limit n : ℕ) (xs : List ℕ) → AllBelow limit xs → AllBelow limit (take n xs)
-below-take limit n xs h = λ k.
-    ⊎-elim
-    (λ p. subst (λ (x : ℕ). x < limit) (sym (getD-take n xs k 0 p)) (h k))
-    (λ p. subst (λ (x : ℕ). x < limit) (sym (past k p)) (omega (arith, h 0)))
-    (below-or-not k n)
-  where
-    past : (k : ℕ) → n ≤ k → getD (take n xs) k 0 ≡ 0
-    past k p = nothing-past (take n xs) k (simp length-take (omega arith))
-
 pub length-sheet : (s : Screen) (c : Command) (words old : List ℕ) → length (sheetCommand s c words old) ≡ length old
 unfolding sheetCommand
 length-sheet s c words old = length-tabulate (length old) (sheetByte s c words old)
 
 module _ (m : ℕ) (s : Screen) (e : firstOf (fieldRows m s) ≡ 0) (flag : s .flag ≤ 1) (small : m ≤ 262144) where
-  pub list-ends : (commands : List (List ℕ)) → (0 < length commands → 8 ≤ s .depth) → (words : List ℕ) → AllFine s (length words) commands → AllBytes commands → AllBelow 65536 words
+  pub list-ends : (commands : List (List ℕ)) → (0 < length commands → 8 ≤ s .depth) → (words : List ℕ) → AllFine s (length words) commands → EachBelow 256 commands → AllBelow 65536 words
       → length words ≡ allWords s commands → (chip : Chip) → chip .due .any ≡ false → (old : List ℕ) → length old ≡ m
       → Ends m chip (drawRecords s words commands) old (sheetCommands s commands words old)
-  unfolding AllFine AllBytes allWords drawRecords sheetCommands
+  unfolding AllFine EachBelow allWords drawRecords sheetCommands
   list-ends [] deep words fine bytes few count chip idle old len = ends-none m chip old idle
   list-ends (b ∷ bs) deep words fine bytes few count chip idle old len =
       let n = wordsTaken s (commandOf b) in

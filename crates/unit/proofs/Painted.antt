@@ -10,18 +10,23 @@ use lib.Dec.{eqb}
 use lib.ListN.{length, getD}
 use borrow.Author.Tests.{eq-eqb, ne-eqb, eqb-true, eqb-false}
 use Rattle.record.proofs.Choice.{yes, no}
+use Rattle.record.proofs.Lists.{tabulate-ext}
 use Rattle.pixel.specs.Pixel.{getPixel, byteOf}
 use Rattle.pixel.specs.Raster.{raster}
 use Rattle.pixel.proofs.Pixels.{get-one, get-two}
 use Rattle.screen.specs.declared.Image.{Image}
 use Rattle.screen.specs.declared.Screen.{Screen}
 use Rattle.view.specs.View.{pixelAt}
-use Rattle.blit.specs.Blit.{Blit, Source, given, memory}
-use Rattle.blit.specs.Rectangle.{tabulate, row, column, lane, inside, paintedPixel, paintedByte, painted}
+use Rattle.blit.specs.Blit.{Blit, Source, given, memory, positive, sourcePixel}
+use Rattle.blit.specs.Rectangle.{row, column, lane, inside, paintedPixel, paintedByte, painted}
+use Rattle.blit.specs.Job.{mixOf}
+use Rattle.blit.specs.declared.Mix.{Mix}
+use Rattle.blit.specs.declared.Mix.the-variants.{Store, Raster}
 use Rattle.blit.specs.Words.{wordPixel, hostPixel}
 use Rattle.command.specs.Command.{surfaceOf, lineWords}
 use Rattle.command.specs.declared.Command.{Command}
-use Rattle.unit.specs.Sheet.{sheetPixel, newPixel, changes, sheetByte, sheetCommand, hostPixel as sheet·hostPixel}
+use Rattle.command.proofs.Operation.{by-fill, by-move, by-write, not-fill}
+use Rattle.unit.specs.Sheet.{sheetPixel, sheetSource, sheetMix, newPixel, changes, sheetByte, sheetCommand, hostPixel as sheet·hostPixel}
 use Rattle.unit.proofs.Rectangles.{Frame, At, insideOwn, insideSurface, same-inside, from-own, own-line, own-column, own-lane, surface-line, surface-column, surface-lane}
 
 -- equal tests, and equal values where they hold
@@ -30,9 +35,6 @@ same-choice true true x x′ y e f = f refl
 same-choice true false x x′ y e f = absurd (true≢false e)
 same-choice false true x x′ y e f = absurd (true≢false (sym e))
 same-choice false false x x′ y e f = refl
-
-pub tabulate-ext : (n : ℕ) (f g : ℕ → ℕ) → ((a : ℕ) → f a ≡ g a) → tabulate n f ≡ tabulate n g
-tabulate-ext n f g e = λ t. tabulate n (λ a. e a t)
 
 -- the two pixel sizes
 abbrev pub OneOrTwo : ℕ → Type 0
@@ -168,37 +170,51 @@ module _ (s : Screen) (c : Command) (words old : List ℕ) (B : ℕ) (deep : s .
       let at : on .base + ((y + j) * on .line + (x + i) * B) ≡ on .base + (y * on .line + x * B) + (j * on .line + i * B) = omega arith in
       sheet-get (s .depth) B deep size on old (x + i) (y + j) ∙ ap (getPixel B old) at
 
+  -- a blit that takes the sheet's source pixels and combines as the sheet does
+  pub drawn-as : (c .x + c .width) * B ≤ on .line → (mix : Mix) (source : Source)
+      → ((x y : ℕ) → mixOf mix B x y ≡ sheetMix s c x y)
+      → ((i j : ℕ) → sourcePixel B positive old source (j * on .line + i * B) i j ≡ sheetSource s c words old i j)
+      → painted (over s c B (mixOf mix B) source) old ≡ sheetCommand s c words old
+  unfolding paintedPixel newPixel
+  drawn-as room mix source mixes takes = painted-is-sheet room (mixOf mix B) source pixel
+    where
+      pixel : (i j : ℕ) → i < c .width → j < c .height → paintedPixel (over s c B (mixOf mix B) source) old i j ≡ newPixel s c words old i j
+      pixel i j hi hj = mixes _ _ ∙ ap₂ (sheetMix s c) (takes i j) (sym (held (c .x) (c .y) i j))
+
+  -- ---- what source and destination make
+  fill-mix : c .operation ≡ 0 → (x y : ℕ) → mixOf Store B x y ≡ sheetMix s c x y
+  unfolding sheetMix
+  fill-mix e x y = sym (by-fill (c .operation) _ _ _ e)
+
+  pub raster-mix : (c .operation ≡ 0 → ⊥) → (x y : ℕ) → mixOf (Raster (c .raster)) B x y ≡ sheetMix s c x y
+  unfolding sheetMix
+  raster-mix n x y = sym (not-fill (c .operation) (raster (s .depth) (c .raster) x y) x n ∙ ap (λ (k : ℕ). raster k (c .raster) x y) deep)
+
+  -- ---- the source pixels
+  fill-source : c .operation ≡ 0 → (i j : ℕ) → c .colour ≡ sheetSource s c words old i j
+  unfolding sheetSource
+  fill-source e i j = sym (by-fill (c .operation) _ _ _ e)
+
+  move-source : c .operation ≡ 1 → (i j : ℕ) → getPixel B old (on .base + (c .sy * on .line + c .sx * B) + (j * on .line + i * B)) ≡ sheetSource s c words old i j
+  unfolding sheetSource
+  move-source e i j = sym (by-move (c .operation) _ _ _ e ∙ held (c .sx) (c .sy) i j)
+
+  write-source : c .operation ≡ 2 → ((k : ℕ) → getD words k 0 < 65536) → (i j : ℕ) → hostPixel B (c .width) words i j ≡ sheetSource s c words old i j
+  unfolding sheetSource
+  write-source e few i j = sym (by-write (c .operation) _ _ _ e ∙ host-is (s .depth) B deep size (c .width) words few i j)
+
+  -- ---- each operation
   module _ (room : (c .x + c .width) * B ≤ on .line) where
     -- a fill: the colour
-    pub filled : c .operation ≡ 0 → painted (over s c B (λ a d. a) (given (λ i j. c .colour))) old ≡ sheetCommand s c words old
-    unfolding paintedPixel newPixel
-    filled e = painted-is-sheet room (λ a d. a) (given (λ i j. c .colour)) pixel
-      where
-        pixel : (i j : ℕ) → i < c .width → j < c .height → paintedPixel (over s c B (λ a d. a) (given (λ i j. c .colour))) old i j ≡ newPixel s c words old i j
-        pixel i j hi hj = yes _ (eq-eqb (c .operation) 0 e) refl
+    pub filled : c .operation ≡ 0 → painted (over s c B (mixOf Store B) (given (λ i j. c .colour))) old ≡ sheetCommand s c words old
+    filled e = drawn-as room Store (given (λ i j. c .colour)) (fill-mix e) (fill-source e)
 
     -- a move: source and destination pixel under the raster code
     pub moved : c .operation ≡ 1
-        → painted (over s c B (raster (8 * B) (c .raster)) (memory (on .base + (c .sy * on .line + c .sx * B)))) old ≡ sheetCommand s c words old
-    unfolding paintedPixel newPixel
-    moved e = painted-is-sheet room (raster (8 * B) (c .raster)) (memory (on .base + (c .sy * on .line + c .sx * B))) pixel
-      where
-        pixel : (i j : ℕ) → i < c .width → j < c .height
-            → paintedPixel (over s c B (raster (8 * B) (c .raster)) (memory (on .base + (c .sy * on .line + c .sx * B)))) old i j ≡ newPixel s c words old i j
-        pixel i j hi hj =
-            no _ (ne-eqb (c .operation) 0 (λ z. omega arith))
-            (yes _ (eq-eqb (c .operation) 1 e)
-            (sym (λ t. raster (deep t) (c .raster) (held (c .sx) (c .sy) i j t) (held (c .x) (c .y) i j t))))
+        → painted (over s c B (mixOf (Raster (c .raster)) B) (memory (on .base + (c .sy * on .line + c .sx * B)))) old ≡ sheetCommand s c words old
+    moved e = drawn-as room (Raster (c .raster)) (memory (on .base + (c .sy * on .line + c .sx * B))) (raster-mix (λ z. omega arith)) (move-source e)
 
     -- a write: the host words' pixels and the destination's under the raster code
     pub written : c .operation ≡ 2 → ((k : ℕ) → getD words k 0 < 65536)
-        → painted (over s c B (raster (8 * B) (c .raster)) (given (hostPixel B (c .width) words))) old ≡ sheetCommand s c words old
-    unfolding paintedPixel newPixel
-    written e few = painted-is-sheet room (raster (8 * B) (c .raster)) (given (hostPixel B (c .width) words)) pixel
-      where
-        pixel : (i j : ℕ) → i < c .width → j < c .height
-            → paintedPixel (over s c B (raster (8 * B) (c .raster)) (given (hostPixel B (c .width) words))) old i j ≡ newPixel s c words old i j
-        pixel i j hi hj =
-            no _ (ne-eqb (c .operation) 0 (λ z. omega arith))
-            (no _ (ne-eqb (c .operation) 1 (λ z. omega arith))
-            (sym (λ t. raster (deep t) (c .raster) (host-is (s .depth) B deep size (c .width) words few i j t) (held (c .x) (c .y) i j t))))
+        → painted (over s c B (mixOf (Raster (c .raster)) B) (given (hostPixel B (c .width) words))) old ≡ sheetCommand s c words old
+    written e few = drawn-as room (Raster (c .raster)) (given (hostPixel B (c .width) words)) (raster-mix (λ z. omega arith)) (write-source e few)

@@ -4,6 +4,7 @@ use mathlib.Core.Bool.{Bool, true, false, cond}
 use mathlib.Core.List.{List}
 use Prim.Native.Nat.{ℕ, _-_, _*_, _/_, _%_, _≤_, _<_}
 use lib.ListN.{length}
+use Rattle.record.specs.Lists.{AllBelow}
 use Rattle.record.specs.Checks.{firstOf}
 use Rattle.pixel.specs.Depth.{isDepth}
 use Rattle.pixel.specs.Pixel.{dwordPixel}
@@ -19,7 +20,6 @@ use Rattle.reader.specs.Read.{reading, displayOf, lookedAt, colourAt}
 use Rattle.reader.proofs.Accepted.{not-refused}
 use Rattle.reader.proofs.Answer.{reading-is}
 use Rattle.unit.specs.Sheet.{sheetPixel, sheetShows}
-use Rattle.unit.specs.Demands.{AllBelow}
 use Rattle.unit.proofs.Shown.{shown-pixel}
 
 module _ (s : Screen) (memory : List ℕ) (deep : isDepth (s .depth) ≡ true) (bytes : AllBelow 256 memory) (w : Place) (x : Pixel) where

@@ -3,7 +3,7 @@ use Prim.Native.Nat.{ℕ, _+_}
 use mathlib.Core.Path.{_≡_, refl}
 use mathlib.Core.List.{List, [], _∷_, _++_, map}
 use lib.ListN.{take, replicate, set}
-use Rattle.record.specs.Bytes.{fourBytes, allZero}
+use Rattle.record.specs.Bytes.{twoBytes, fourBytes, allZero}
 use Rattle.record.specs.Checks.{firstOf}
 use Rattle.record.specs.Record.{recordBytes, streamBytes}
 use Rattle.pixel.specs.Depth.{isDepth}
@@ -12,14 +12,15 @@ use Rattle.pixel.specs.Raster.{bitwise}
 use Rattle.screen.specs.Image.{imageEnd, startOf}
 use Rattle.screen.specs.Screen.{fieldsOf, wellFormed, panelOk, viewWidth, viewHeight, wholeDwords, mainImage, windowImage, imageOk, windowOk, windowWhole, fieldRows, screenRows}
 use Rattle.screen.specs.Values.{windowX, windowY, originOf, valuesOf}
-use Rattle.screen.specs.Cases.{twoBytes, plain}
 use Rattle.screen.specs.declared.Image.{Image}
 use Rattle.view.specs.View.{pixelAt, viewPixel, inWindow, windowPixel}
-use Rattle.command.specs.Command.{commandOf, surfaceOf, unusedZero, formed, insideImage, placed, lineWords, wordsTaken, commandRows, refusal}
+use Rattle.command.specs.Command.{commandOf, commandBytes, surfaceOf, mustBeZero, formed, insideImage, placed, lineWords, wordsTaken, commandRows, refusal}
 use Rattle.command.specs.Values.{addressOf, destinationOf, sourceOf, isNegative, lastColumn, lastLine, commandValue, sourceValue, destinationValue, controlValue, blitValues}
-use Rattle.compiler.specs.Stream.{partsFrom, partsOf, recordsWith, screenRecords, dataRecords, commandRecords, drawRecords, recordsFor}
-use Rattle.compiler.specs.Compile.{listRows, firstRefusal, allWords, endRows, refusalOf, compiling, streamOf, bufferAfter}
-use Rattle.unit.specs.Sheet.{sheetPixel, hostPixel, newPixel, changes, sheetByte, sheetCommand, sheetCommands, sheetAfter, sheetShows}
+use Rattle.record.specs.Lists.{partsFrom, partsOf}
+use Rattle.compiler.specs.Stream.{recordsWith, screenRecords, dataRecords, commandRecords, drawRecords, recordsFor}
+use Rattle.command.specs.Task.{task, listRows, firstRefusal, allWords, wordRows, taskRefusal}
+use Rattle.compiler.specs.Compile.{roomRows, refusalOf, compiling, streamOf, bufferAfter}
+use Rattle.unit.specs.Sheet.{sheetPixel, hostPixel, sheetSource, sheetMix, newPixel, changes, sheetByte, sheetCommand, sheetCommands, sheetAfter, sheetShows}
 use Rattle.unit.specs.Draw.{drawing, memoryDrawn, streamDrawn, drawingOf, answerOf, showRows, showing}
 use Rattle.unit.specs.Cases.{command}
 use Rattle.unit.specs.declared.Drawn.the-variants.{Accepted, Refused}
@@ -63,34 +64,34 @@ drawn depth list words = sheetCommands (fieldsOf (screen depth)) (partsOf 32 lis
 -- a fill of 2 by 2 at (1, 0) with colour 99
 pub filled : drawn 8 (command 0 0 1 0 2 2 0 0 99) []
     ≡ 1 ∷ 99 ∷ 99 ∷ 4 ∷ 5 ∷ 6 ∷ 7 ∷ 8 ∷ 9 ∷ 99 ∷ 99 ∷ 12 ∷ 13 ∷ 14 ∷ 15 ∷ 16 ∷ 17 ∷ 18 ∷ 19 ∷ 20 ∷ 21 ∷ 22 ∷ 23 ∷ 24 ∷ []
-unfolding byteOf fieldsOf viewWidth viewHeight mainImage windowImage commandOf surfaceOf lineWords wordsTaken partsFrom partsOf sheetPixel hostPixel newPixel changes sheetByte sheetCommand sheetCommands
+unfolding byteOf fieldsOf viewWidth viewHeight mainImage windowImage commandOf commandBytes surfaceOf lineWords wordsTaken partsFrom partsOf sheetPixel hostPixel sheetSource sheetMix newPixel changes sheetByte sheetCommand sheetCommands
 filled = refl
 
 -- a move within the window, of 3 by 1 from (0, 1) to (1, 0) under exclusive or
 pub moved : drawn 8 (on-window (command 1 6 1 0 3 1 0 1 0)) []
     ≡ 1 ∷ 2 ∷ 3 ∷ 4 ∷ 5 ∷ 6 ∷ 7 ∷ 8 ∷ 9 ∷ 10 ∷ 11 ∷ 12 ∷ 13 ∷ 14 ∷ 15 ∷ 16 ∷ 17 ∷ 7 ∷ 5 ∷ 3 ∷ 21 ∷ 22 ∷ 23 ∷ 24 ∷ []
-unfolding byteOf bitwise fieldsOf viewWidth viewHeight mainImage windowImage commandOf surfaceOf lineWords wordsTaken partsFrom partsOf sheetPixel hostPixel newPixel changes sheetByte sheetCommand sheetCommands
+unfolding byteOf bitwise fieldsOf viewWidth viewHeight mainImage windowImage commandOf commandBytes surfaceOf lineWords wordsTaken partsFrom partsOf sheetPixel hostPixel sheetSource sheetMix newPixel changes sheetByte sheetCommand sheetCommands
 moved = refl
 
 -- two writes of 3 by 2 and of 1 by 1: each line takes two words and one word, the spare high byte ignored; the second takes the words that the first left
 pub written : drawn 8 (command 2 0xC 0 0 3 2 0 0 0 ++ command 2 0xC 7 1 1 1 0 0 0) (0x6261 ∷ 0xFF63 ∷ 0x6564 ∷ 0xFF66 ∷ 0xFF67 ∷ [])
     ≡ 0x61 ∷ 0x62 ∷ 0x63 ∷ 4 ∷ 5 ∷ 6 ∷ 7 ∷ 8 ∷ 0x64 ∷ 0x65 ∷ 0x66 ∷ 12 ∷ 13 ∷ 14 ∷ 15 ∷ 0x67 ∷ 17 ∷ 18 ∷ 19 ∷ 20 ∷ 21 ∷ 22 ∷ 23 ∷ 24 ∷ []
-unfolding byteOf bitwise fieldsOf viewWidth viewHeight mainImage windowImage commandOf surfaceOf lineWords wordsTaken partsFrom partsOf sheetPixel hostPixel newPixel changes sheetByte sheetCommand sheetCommands
+unfolding byteOf bitwise fieldsOf viewWidth viewHeight mainImage windowImage commandOf commandBytes surfaceOf lineWords wordsTaken partsFrom partsOf sheetPixel hostPixel sheetSource sheetMix newPixel changes sheetByte sheetCommand sheetCommands
 written = refl
 
 -- at depth 16 a line of the main image has 16 bytes, and a write of 2 by 1 at (3, 0) takes two words, the low byte first
 pub written-wide : drawn 16 (command 2 0xC 3 0 2 1 0 0 0) (0x6261 ∷ 0x6463 ∷ [])
     ≡ 1 ∷ 2 ∷ 3 ∷ 4 ∷ 5 ∷ 6 ∷ 0x61 ∷ 0x62 ∷ 0x63 ∷ 0x64 ∷ 11 ∷ 12 ∷ 13 ∷ 14 ∷ 15 ∷ 16 ∷ 17 ∷ 18 ∷ 19 ∷ 20 ∷ 21 ∷ 22 ∷ 23 ∷ 24 ∷ []
-unfolding byteOf bitwise fieldsOf viewWidth viewHeight mainImage windowImage commandOf surfaceOf lineWords wordsTaken partsFrom partsOf sheetPixel hostPixel newPixel changes sheetByte sheetCommand sheetCommands
+unfolding byteOf bitwise fieldsOf viewWidth viewHeight mainImage windowImage commandOf commandBytes surfaceOf lineWords wordsTaken partsFrom partsOf sheetPixel hostPixel sheetSource sheetMix newPixel changes sheetByte sheetCommand sheetCommands
 written-wide = refl
 
 -- ---- drawing and showing, the memory being those 24 bytes
 
 abbrev draws : List ℕ → List ℕ → ℕ → List ℕ → List ℕ
 draws list words room memory =
-    let d = drawing 24 (screen 8) list words room memory in
-    d .number ∷ d .place ∷ d .length ∷ d .values .main .offset ∷ d .values .window .start ∷ d .values .x ∷ take 2 (memoryDrawn 24 (screen 8) list words room memory)
-    ++ take 1 (streamDrawn 24 (screen 8) list words (replicate room 7) memory)
+    let d = drawing 24 (task (screen 8) list words) room memory in
+    d .number ∷ d .place ∷ d .length ∷ d .values .main .offset ∷ d .values .window .start ∷ d .values .x ∷ take 2 (memoryDrawn 24 (task (screen 8) list words) room memory)
+    ++ take 1 (streamDrawn 24 (task (screen 8) list words) (replicate room 7) memory)
 
 -- accepted, with the stream's length and the screen's values; 18 before a refusal of compiling; a refused command with its place; 17
 pub drawings : draws (command 0 0 0 0 1 1 0 0 99) [] 120 old
@@ -103,14 +104,14 @@ pub drawings : draws (command 0 0 0 0 1 1 0 0 99) [] 120 old
     ∷ (13 ∷ 1 ∷ 0 ∷ 0 ∷ 0 ∷ 0 ∷ 1 ∷ 2 ∷ 7 ∷ [])
     ∷ (17 ∷ 0 ∷ 0 ∷ 0 ∷ 0 ∷ 0 ∷ 1 ∷ 2 ∷ 7 ∷ [])
     ∷ []
-unfolding allZero firstOf recordBytes streamBytes isDepth byteOf bitwise imageEnd startOf fieldsOf wellFormed panelOk viewWidth viewHeight wholeDwords mainImage windowImage imageOk windowOk windowWhole fieldRows screenRows windowX windowY originOf valuesOf commandOf surfaceOf unusedZero formed insideImage placed lineWords wordsTaken commandRows refusal addressOf destinationOf sourceOf isNegative lastColumn lastLine commandValue sourceValue destinationValue controlValue blitValues partsFrom partsOf recordsWith screenRecords dataRecords commandRecords drawRecords recordsFor listRows firstRefusal allWords endRows refusalOf compiling streamOf bufferAfter sheetPixel hostPixel newPixel changes sheetByte sheetCommand sheetCommands sheetAfter drawing memoryDrawn streamDrawn
+unfolding allZero firstOf recordBytes streamBytes isDepth byteOf bitwise imageEnd startOf fieldsOf wellFormed panelOk viewWidth viewHeight wholeDwords mainImage windowImage imageOk windowOk windowWhole fieldRows screenRows windowX windowY originOf valuesOf commandOf commandBytes surfaceOf mustBeZero formed insideImage placed lineWords wordsTaken commandRows refusal addressOf destinationOf sourceOf isNegative lastColumn lastLine commandValue sourceValue destinationValue controlValue blitValues partsFrom partsOf recordsWith screenRecords dataRecords commandRecords drawRecords recordsFor listRows firstRefusal allWords wordRows taskRefusal roomRows refusalOf compiling streamOf bufferAfter sheetPixel hostPixel sheetSource sheetMix newPixel changes sheetByte sheetCommand sheetCommands sheetAfter drawing memoryDrawn streamDrawn
 drawings = refl
 
 -- the numbers of an answer, and the answer with these numbers
 pub answers : (drawingOf (Refused 13 1)
     ≡ record { number = 13; place = 1; length = 0; values = record { main = record { start = 0; offset = 0 }; window = record { start = 0; offset = 0 }; x = 0; y = 0 } })
     × (answerOf (drawingOf (Refused 13 1)) ≡ Refused 13 1)
-    × (answerOf (drawing 24 (screen 8) [] [] 0 []) ≡ Refused 18 0)
+    × (answerOf (drawing 24 (task (screen 8) [] []) 0 []) ≡ Refused 18 0)
     × (answerOf (drawingOf (Accepted 120 (valuesOf (fieldsOf (screen 8))))) ≡ Accepted 120 (valuesOf (fieldsOf (screen 8))))
 unfolding drawing drawingOf answerOf
 answers = (refl, refl, refl, refl)

@@ -4,10 +4,11 @@ use mathlib.Core.Bool.{Bool, true, false, not, _&&_, true≢false}
 use mathlib.Core.List.{List, [], _∷_, _++_}
 use Prim.Native.Nat.{ℕ, _<_, _≤_}
 use native.Mathlib.Omega.{arith}
-use lib.Dec.{eqb, ltb, lit<}
+use lib.Dec.{ltb, lit<}
 use lib.ListN.{length}
 use borrow.Author.Tests.{eq-eqb, ne-eqb, le-ltb, ltb-true}
-use Rattle.record.specs.Checks.{Row, row, firstOf, AllPass}
+use Rattle.record.specs.Lists.{AllBelow}
+use Rattle.record.specs.Checks.{row, firstOf, AllPass}
 use Rattle.record.proofs.Checks.{none, first-part, second-part, row-fails, row-passes, rows-end}
 use Rattle.record.proofs.Choice.{and-left, and-right}
 use Rattle.screen.specs.Screen.{memorySize, fieldsOf, fieldRows, screenRows, screenOf, numberOf, mainImage}
@@ -23,8 +24,6 @@ use Rattle.reader.specs.declared.PointAnswer.{PointAnswer}
 use Rattle.reader.specs.declared.PointAnswer.the-variants.{Refused}
 use Rattle.reader.proofs.Answer.{refused-answer}
 use Rattle.reader.specs.declared.Display.{Display}
-use Rattle.unit.specs.Sheet.{sheetShows}
-use Rattle.unit.specs.Demands.{AllBelow}
 use Rattle.unit.specs.Draw.{showRows, showing}
 use Rattle.unit.proofs.Points.{reads-sheet}
 

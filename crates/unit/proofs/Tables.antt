@@ -6,20 +6,20 @@ use Prim.Native.Nat.{ℕ, suc, _+_, _-_, _/_, _%_, _<_}
 use native.Mathlib.Omega.{arith}
 use lib.Dec.{eqb, lit<}
 use lib.ListN.{length}
-use borrow.Author.Tests.{eqb-true, eqb-false}
-use Rattle.record.specs.Checks.{Row, row, rowsAt, firstOf, firstPlace, Numbered}
+use borrow.Author.Tests.{eqb-true}
+use Rattle.record.specs.Checks.{Row, row, rowsAt, firstOf, firstPlace, Refusal, Numbered}
 use Rattle.record.specs.Record.{recordsOf}
 use Rattle.record.specs.declared.Record.{Record}
 use Rattle.record.proofs.Records.{records-count}
 use Rattle.record.proofs.Checks.{none, nowhere, numbered-append, numbered-at, Placeless, placeless, placeless-append, parts, place-parts, at-parts, at-place-parts, accepted-exactly, refused-exactly, rows-end}
-use Rattle.screen.specs.Screen.{fieldsOf, fieldRows, screenRows}
+use Rattle.screen.specs.Screen.{fieldRows, screenRows}
 use Rattle.screen.specs.declared.Screen.{Screen}
 use Rattle.screen.specs.declared.ScreenValues.{ScreenValues}
 use Rattle.screen.proofs.Read.{screen-numbered}
 use Rattle.command.specs.Command.{commandOf, wordsTaken, commandRows, refusal}
 use Rattle.command.proofs.Answer.{command-numbered}
-use Rattle.compiler.specs.Stream.{partsOf}
-use Rattle.compiler.specs.Compile.{commandSize, listRows, endRows, Refusal, firstRefusal, refusalOf, refusedBy as compiler·refusedBy, Compiling, compiling}
+use Rattle.command.specs.Task.{Task, screenIn, commandsIn, listRows, firstRefusal, wordRows, taskRefusal}
+use Rattle.compiler.specs.Compile.{roomRows, refusalOf, refusedBy as compiler·refusedBy, Compiling, compiling}
 use Rattle.chip.specs.Admit.{admitRows, chipAfter}
 use Rattle.chip.specs.Play.{newChip, run, refusedBy, ending, playing}
 use Rattle.chip.specs.declared.Chip.{Chip}
@@ -28,7 +28,7 @@ use Rattle.chip.proofs.Tables.{Says, table-end, table-step}
 use Rattle.reader.specs.Read.{readRows, reading}
 use Rattle.reader.specs.declared.Display.{Display}
 use Rattle.reader.proofs.Answer.{numbered as read·numbered}
-use Rattle.unit.specs.Tables.{listedRows, compileRows, recordRows, playRows}
+use Rattle.unit.specs.Tables.{listedRows, taskRows, compileRows, recordRows, playRows}
 use Rattle.unit.specs.Demands.{Decided}
 
 -- ---- rows have numbers above 0
@@ -42,9 +42,13 @@ listed-numbered s i left [] = tt
 listed-numbered s i left (b ∷ bs) =
     numbered-append (rowsAt i (commandRows s left b (commandOf b))) _ (numbered-at i (commandRows s left b (commandOf b)) (command-numbered s left b (commandOf b))) (listed-numbered s (suc i) _ bs)
 
-end-numbered : (s : Screen) (commands : List (List ℕ)) (words : List ℕ) (room : ℕ) → Numbered (endRows s commands words room)
-unfolding Numbered endRows
-end-numbered s commands words room = (lit< tt, (lit< tt, tt))
+word-numbered : (t : Task) → Numbered (wordRows t)
+unfolding Numbered wordRows
+word-numbered t = (lit< tt, tt)
+
+room-numbered : (t : Task) (room : ℕ) → Numbered (roomRows t room)
+unfolding Numbered roomRows
+room-numbered t room = (lit< tt, tt)
 
 record-numbered : (m : ℕ) (c : Chip) (i : ℕ) (rs : List Record) → Numbered (recordRows m c i rs)
 unfolding recordRows rowsAt Numbered
@@ -60,9 +64,13 @@ list-placeless : (size : ℕ) (s : Screen) (list : List ℕ) → Placeless (list
 unfolding Placeless listRows
 list-placeless size s list = (refl, (refl, tt))
 
-end-placeless : (s : Screen) (commands : List (List ℕ)) (words : List ℕ) (room : ℕ) → Placeless (endRows s commands words room)
-unfolding Placeless endRows
-end-placeless s commands words room = (refl, (refl, tt))
+word-placeless : (t : Task) → Placeless (wordRows t)
+unfolding Placeless wordRows
+word-placeless t = (refl, tt)
+
+room-placeless : (t : Task) (room : ℕ) → Placeless (roomRows t room)
+unfolding Placeless roomRows
+room-placeless t room = (refl, tt)
 
 read-placeless : (m : ℕ) (d : Display) (v : ScreenValues) (p q : ℕ) (memory : List ℕ) → Placeless (readRows m d v p q memory)
 unfolding Placeless readRows
@@ -111,87 +119,104 @@ module _ (s : Screen) where
       ∙ ap (λ (n : ℕ). cond (eqb (firstOf rows) 0) n i) (listed-place (suc i) (left - wordsTaken s (commandOf b)) bs)
       ∙ sym (at-place-parts i rows (listedRows s (suc i) (left - wordsTaken s (commandOf b)) bs) (command-numbered s left b (commandOf b)))
 
-module _ (m : ℕ) (bytes list words : List ℕ) (room : ℕ) where
-  abbrev s : Screen
-  s = fieldsOf bytes
-
-  abbrev commands : List (List ℕ)
-  commands = partsOf commandSize list
-
-  -- 1 to 11, 12 to 15, 16 and 17
+module _ (m : ℕ) (t : Task) where
+  -- 1 to 11, 12 to 15, 16
   abbrev before : List Row
-  before = screenRows m bytes ++ listRows commandSize s list
+  before = screenRows m (t .screen) ++ listRows (t .size) (screenIn t) (t .list)
 
   abbrev after : List Row
-  after = listedRows s 0 (length words) commands
+  after = listedRows (screenIn t) 0 (length (t .words)) (commandsIn t)
 
   abbrev ends : List Row
-  ends = endRows s commands words room
+  ends = wordRows t
 
   abbrev inList : Refusal
-  inList = firstRefusal s 0 (length words) commands
+  inList = firstRefusal (screenIn t) 0 (length (t .words)) (commandsIn t)
 
   before-numbered : Numbered before
-  before-numbered = numbered-append (screenRows m bytes) _ (screen-numbered m bytes) (list-numbered commandSize s list)
+  before-numbered = numbered-append (screenRows m (t .screen)) _ (screen-numbered m (t .screen)) (list-numbered (t .size) (screenIn t) (t .list))
 
   before-nowhere : firstPlace before ≡ 0
-  before-nowhere = placeless before (placeless-append (screenRows m bytes) _ (screen-placeless m bytes) (list-placeless commandSize s list))
+  before-nowhere =
+      placeless before (placeless-append (screenRows m (t .screen)) _ (screen-placeless m (t .screen)) (list-placeless (t .size) (screenIn t) (t .list)))
 
-  refusal-first : refusalOf m bytes list words room .number ≡ firstOf (compileRows m bytes list words room)
-  unfolding refusalOf compileRows
-  refusal-first =
+  after-numbered : Numbered after
+  after-numbered = listed-numbered (screenIn t) 0 (length (t .words)) (commandsIn t)
+
+  task-first : taskRefusal m t .number ≡ firstOf (taskRows m t)
+  unfolding taskRefusal taskRows
+  task-first =
       number-of (not (eqb (firstOf before) 0)) _ _
       ∙ turned (eqb (firstOf before) 0) _ _
       ∙ ap (λ (n : ℕ). cond (eqb (firstOf before) 0) n (firstOf before))
       (number-of (not (eqb (inList .number) 0)) _ _
       ∙ turned (eqb (inList .number) 0) _ _
-      ∙ ap (λ (n : ℕ). cond (eqb n 0) (firstOf ends) n) (listed-first s 0 (length words) commands)
-      ∙ sym (parts after ends (listed-numbered s 0 (length words) commands)))
+      ∙ ap (λ (n : ℕ). cond (eqb n 0) (firstOf ends) n) (listed-first (screenIn t) 0 (length (t .words)) (commandsIn t))
+      ∙ sym (parts after ends after-numbered))
       ∙ sym (parts before (after ++ ends) before-numbered)
-      ∙ ap firstOf (append-assoc (screenRows m bytes) (listRows commandSize s list) (after ++ ends))
+      ∙ ap firstOf (append-assoc (screenRows m (t .screen)) (listRows (t .size) (screenIn t) (t .list)) (after ++ ends))
 
-  -- the place of 12 to 17
-  listed-or-ended : (t : Bool) → cond (not t) inList (record { number = firstOf ends; place = 0 }) .place ≡ cond t (firstPlace ends) (firstPlace after)
-  listed-or-ended true = sym (placeless ends (end-placeless s commands words room))
-  listed-or-ended false = listed-place s 0 (length words) commands
+  -- the place of 12 to 16
+  listed-or-ended : (b : Bool) → cond (not b) inList (record { number = firstOf ends; place = 0 }) .place ≡ cond b (firstPlace ends) (firstPlace after)
+  listed-or-ended true = sym (placeless ends (word-placeless t))
+  listed-or-ended false = listed-place (screenIn t) 0 (length (t .words)) (commandsIn t)
 
-  -- the place of 1 to 17
-  any-of : (t : Bool) (r : Refusal) (i : ℕ) → r .place ≡ i → cond (not t) (record { number = firstOf before; place = 0 }) r .place ≡ cond t i (firstPlace before)
+  -- the place of 1 to 16
+  any-of : (b : Bool) (r : Refusal) (i : ℕ) → r .place ≡ i → cond (not b) (record { number = firstOf before; place = 0 }) r .place ≡ cond b i (firstPlace before)
   any-of true r i e = e
   any-of false r i e = sym before-nowhere
 
-  refusal-place : refusalOf m bytes list words room .place ≡ firstPlace (compileRows m bytes list words room)
-  unfolding refusalOf compileRows
-  refusal-place =
+  task-place : taskRefusal m t .place ≡ firstPlace (taskRows m t)
+  unfolding taskRefusal taskRows
+  task-place =
       any-of (eqb (firstOf before) 0) _ (firstPlace (after ++ ends))
       (listed-or-ended (eqb (inList .number) 0)
-      ∙ ap (λ (n : ℕ). cond (eqb n 0) (firstPlace ends) (firstPlace after)) (listed-first s 0 (length words) commands)
-      ∙ sym (place-parts after ends (listed-numbered s 0 (length words) commands)))
+      ∙ ap (λ (n : ℕ). cond (eqb n 0) (firstPlace ends) (firstPlace after)) (listed-first (screenIn t) 0 (length (t .words)) (commandsIn t))
+      ∙ sym (place-parts after ends after-numbered))
       ∙ sym (place-parts before (after ++ ends) before-numbered)
-      ∙ ap firstPlace (append-assoc (screenRows m bytes) (listRows commandSize s list) (after ++ ends))
+      ∙ ap firstPlace (append-assoc (screenRows m (t .screen)) (listRows (t .size) (screenIn t) (t .list)) (after ++ ends))
 
-  rows-numbered : Numbered (compileRows m bytes list words room)
-  unfolding compileRows
-  rows-numbered =
-      numbered-append (screenRows m bytes) _ (screen-numbered m bytes)
-      (numbered-append (listRows commandSize s list) _ (list-numbered commandSize s list)
-      (numbered-append after ends (listed-numbered s 0 (length words) commands) (end-numbered s commands words room)))
+  task-numbered : Numbered (taskRows m t)
+  unfolding taskRows
+  task-numbered =
+      numbered-append (screenRows m (t .screen)) _ (screen-numbered m (t .screen))
+      (numbered-append (listRows (t .size) (screenIn t) (t .list)) _ (list-numbered (t .size) (screenIn t) (t .list))
+      (numbered-append after ends after-numbered (word-numbered t)))
 
-  pub compile-first : (compiling m bytes list words room .number ≡ firstOf (compileRows m bytes list words room))
-      × (compiling m bytes list words room .place ≡ firstPlace (compileRows m bytes list words room))
-  unfolding compiling
-  compile-first = by-number (eqb (refusalOf m bytes list words room .number) 0) _ refl refl refl
-    where
-      by-number : (t : Bool) (p : Compiling) → p .number ≡ 0 → p .place ≡ 0 → eqb (refusalOf m bytes list words room .number) 0 ≡ t
-          → (cond t p (compiler·refusedBy (refusalOf m bytes list words room .number) (refusalOf m bytes list words room .place)) .number ≡ firstOf (compileRows m bytes list words room))
-          × (cond t p (compiler·refusedBy (refusalOf m bytes list words room .number) (refusalOf m bytes list words room .place)) .place ≡ firstPlace (compileRows m bytes list words room))
-      by-number true p n i e =
-          let z = sym refusal-first ∙ eqb-true (refusalOf m bytes list words room .number) 0 e in
-          (n ∙ sym z, i ∙ sym (nowhere (compileRows m bytes list words room) (none (compileRows m bytes list words room) rows-numbered z)))
-      by-number false p n i e = (refusal-first, refusal-place)
+  -- ---- and 17
+  module _ (room : ℕ) where
+    refusal-first : refusalOf m t room .number ≡ firstOf (compileRows m t room)
+    unfolding refusalOf compileRows
+    refusal-first =
+        number-of (eqb (taskRefusal m t .number) 0) _ _
+        ∙ ap (λ (n : ℕ). cond (eqb n 0) (firstOf (roomRows t room)) n) task-first
+        ∙ sym (parts (taskRows m t) (roomRows t room) task-numbered)
 
-  pub compile-decided : Decided (compiling m bytes list words room .number) (compiling m bytes list words room .place) (compileRows m bytes list words room)
-  compile-decided = decided (compile-first .0) (compile-first .1) rows-numbered
+    refusal-place : refusalOf m t room .place ≡ firstPlace (compileRows m t room)
+    unfolding refusalOf compileRows
+    refusal-place =
+        place-of (eqb (taskRefusal m t .number) 0) _ _
+        ∙ (λ x. cond (eqb (task-first x) 0) (sym (placeless (roomRows t room) (room-placeless t room)) x) (task-place x))
+        ∙ sym (place-parts (taskRows m t) (roomRows t room) task-numbered)
+
+    rows-numbered : Numbered (compileRows m t room)
+    unfolding compileRows
+    rows-numbered = numbered-append (taskRows m t) (roomRows t room) task-numbered (room-numbered t room)
+
+    pub compile-first : (compiling m t room .number ≡ firstOf (compileRows m t room)) × (compiling m t room .place ≡ firstPlace (compileRows m t room))
+    unfolding compiling
+    compile-first = by-number (eqb (refusalOf m t room .number) 0) _ refl refl refl
+      where
+        by-number : (b : Bool) (p : Compiling) → p .number ≡ 0 → p .place ≡ 0 → eqb (refusalOf m t room .number) 0 ≡ b
+            → (cond b p (compiler·refusedBy (refusalOf m t room .number) (refusalOf m t room .place)) .number ≡ firstOf (compileRows m t room))
+            × (cond b p (compiler·refusedBy (refusalOf m t room .number) (refusalOf m t room .place)) .place ≡ firstPlace (compileRows m t room))
+        by-number true p n i e =
+            let z = sym refusal-first ∙ eqb-true (refusalOf m t room .number) 0 e in
+            (n ∙ sym z, i ∙ sym (nowhere (compileRows m t room) (none (compileRows m t room) rows-numbered z)))
+        by-number false p n i e = (refusal-first, refusal-place)
+
+    pub compile-decided : Decided (compiling m t room .number) (compiling m t room .place) (compileRows m t room)
+    compile-decided = decided (compile-first .0) (compile-first .1) rows-numbered
 
 -- ---- playing
 run-first : (m : ℕ) (c : Chip) (i n : ℕ) (rs : List Record) → i + length rs ≡ n → Says (ending (run m c i rs) n) (recordRows m c i rs)

@@ -2,29 +2,27 @@
 use mathlib.Core.Path.{_≡_, refl, sym, ap, subst, _∙_}
 use mathlib.Core.Bool.{Bool, true, false, cond, true≢false}
 use mathlib.Core.List.{List, [], _∷_}
-use mathlib.Core.Logic.{⊎-elim}
-use Prim.Native.Nat.{ℕ, zero, suc, _-_, _*_, _/_, _%_, _^_, _≤_, _<_}
+use Prim.Native.Nat.{ℕ, zero, suc, _-_, _/_, _%_, _^_, _≤_, _<_}
+use native.Mathlib.Nat.{div-le-self}
 use native.Mathlib.Omega.{arith}
 use lib.Dec.{eqb, leb, lit<}
 use lib.ListN.{length, getD, take, drop}
 use borrow.Author.Tests.{eqb-true, leb-true}
+use Rattle.record.specs.Lists.{AllBelow}
 use Rattle.record.specs.declared.Record.{Record}
-use Rattle.record.proofs.Choice.{and-right, or-elim, below-or-not}
+use Rattle.record.proofs.Choice.{and-right, or-elim}
 use Rattle.record.proofs.Records.{Small}
+use Rattle.record.proofs.Lists.{length-parts, below-parts, below-tabulate}
 use Rattle.pixel.specs.Pixel.{byteOf}
-use Rattle.blit.specs.Rectangle.{tabulate}
-use Rattle.blit.proofs.Painted.{length-tabulate, getD-tabulate}
-use Rattle.screen.specs.Screen.{fieldsOf}
 use Rattle.screen.specs.Values.{valuesOf}
 use Rattle.screen.specs.Fields.{upTo}
 use Rattle.screen.specs.declared.Screen.{Screen}
 use Rattle.screen.proofs.Fits.{values-pass, edges-say}
 use Rattle.command.specs.Command.{commandOf, wordsTaken}
 use Rattle.command.specs.declared.Command.{Command}
-use Rattle.compiler.specs.Stream.{partsFrom, partsOf, recordsWith, screenRecords, drawRecords, recordsFor}
-use Rattle.compiler.specs.Compile.{commandSize}
-use Rattle.compiler.proofs.Accepted.{Accepted}
-use Rattle.compiler.proofs.Lengths.{length-parts}
+use Rattle.command.specs.Task.{Task, screenIn, commandsIn}
+use Rattle.command.proofs.Task.{Accepted}
+use Rattle.compiler.specs.Stream.{recordsWith, screenRecords, drawRecords, recordsFor, recordsIn}
 use Rattle.chip.specs.Register.{fits, controlFits, commandFits}
 use Rattle.chip.specs.Admit.{chipAfter}
 use Rattle.chip.specs.Play.{newChip}
@@ -35,42 +33,29 @@ use Rattle.chip.proofs.Plays.{Plays, plays-append, new-idle}
 use Rattle.chip.proofs.Commands.{screenWrites, quiet, screen-played}
 use Rattle.chip.proofs.Admits.{admits}
 use Rattle.unit.specs.Sheet.{changes, sheetByte, sheetCommand, sheetCommands}
-use Rattle.unit.specs.Demands.{AllBelow}
-use Rattle.unit.proofs.Listed.{Ends, AllBytes, below-take, below-drop, nothing-past, length-sheet, list-ends}
+use Rattle.unit.proofs.Listed.{Ends, length-sheet, list-ends}
 
 -- ---- the records of the stream, from a new chip
 screen-records : (s : Screen) → screenRecords s ≡ screenWrites (valuesOf s)
 unfolding screenRecords recordsWith
 screen-records s = refl
 
-parts-bytes : (size : ℕ) (list : List ℕ) → AllBelow 256 list → (i n : ℕ) → AllBytes (partsFrom size list i n)
-unfolding partsFrom AllBytes
-parts-bytes size list h i zero = tt
-parts-bytes size list h i (suc n) = (below-take 256 size (drop (i * size) list) (below-drop 256 (i * size) list h), parts-bytes size list h (suc i) n)
-
-all-bytes : (size : ℕ) (list : List ℕ) → AllBelow 256 list → AllBytes (partsOf size list)
-unfolding partsOf
-all-bytes size list h = parts-bytes size list h 0 (length list / size)
-
-module _ (m : ℕ) (small : m ≤ 262144) (bytes list words : List ℕ) (room : ℕ) (c : Accepted m bytes list words room) (byte-list : AllBelow 256 list) (word-list : AllBelow 65536 words) where
+module _ (m : ℕ) (small : m ≤ 262144) (t : Task) (c : Accepted m t) (byte-list : AllBelow 256 (t .list)) (word-list : AllBelow 65536 (t .words)) where
   abbrev s : Screen
-  s = fieldsOf bytes
+  s = screenIn t
 
-  abbrev commands : List (List ℕ)
-  commands = partsOf commandSize list
-
-  some-bytes : 0 < length commands → 0 < length list
-  some-bytes h = omega (arith, h, length-parts commandSize list)
+  some-bytes : 0 < length (commandsIn t) → 0 < length (t .list)
+  some-bytes h = omega (arith, h, length-parts (t .size) (t .list), div-le-self (length (t .list)) (t .size))
 
   -- the commands, behind the six screen records
   pub rest-ends : (memory : List ℕ) → length memory ≡ m
-      → Ends m (quiet (valuesOf s) (newChip .blit)) (drawRecords s words commands) memory (sheetCommands s commands words memory)
+      → Ends m (quiet (valuesOf s) (newChip .blit)) (drawRecords s (t .words) (commandsIn t)) memory (sheetCommands s (commandsIn t) (t .words) memory)
   rest-ends memory len =
-      list-ends m s (c .fields) (c .flag) small commands (λ h. c .deep (some-bytes h)) words (c .fine) (all-bytes commandSize list byte-list) word-list (sym (c .taken))
+      list-ends m s (c .fields) (c .flag) small (commandsIn t) (λ h. c .deep (some-bytes h)) (t .words) (c .fine) (below-parts 256 (t .size) (t .list) byte-list) word-list (sym (c .taken))
       (quiet (valuesOf s) (newChip .blit)) refl memory len
 
   pub whole-plays : (memory : List ℕ) (len : length memory ≡ m)
-      → Plays m newChip (recordsFor s commands words) memory (rest-ends memory len .chip) (sheetCommands s commands words memory)
+      → Plays m newChip (recordsIn t) memory (rest-ends memory len .chip) (sheetCommands s (commandsIn t) (t .words) memory)
   unfolding recordsFor
   whole-plays memory len =
       plays-append
@@ -148,13 +133,6 @@ either-below false k v x h = h
 sheet-byte : (s : Screen) (c : Command) (words old : List ℕ) → AllBelow 256 old → (a : ℕ) → sheetByte s c words old a < 256
 unfolding sheetByte
 sheet-byte s c words old h a = either-below (changes s c a) _ _ (getD old a 0) (h a)
-
-below-tabulate : (limit : ℕ) → 0 < limit → (n : ℕ) (f : ℕ → ℕ) → ((a : ℕ) → f a < limit) → AllBelow limit (tabulate n f)
-below-tabulate limit pos n f h = λ k.
-    ⊎-elim
-    (λ p. subst (λ (x : ℕ). x < limit) (sym (getD-tabulate n f k p)) (h k))
-    (λ p. subst (λ (x : ℕ). x < limit) (sym (nothing-past (tabulate n f) k (subst (λ (x : ℕ). x ≤ k) (sym (length-tabulate n f)) p))) pos)
-    (below-or-not k n)
 
 pub sheet-bytes : (s : Screen) (commands : List (List ℕ)) (words old : List ℕ) → AllBelow 256 old → AllBelow 256 (sheetCommands s commands words old)
 unfolding sheetCommands sheetCommand

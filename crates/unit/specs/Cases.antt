@@ -4,19 +4,18 @@ use mathlib.Core.List.{List, [], _∷_, _++_}
 use lib.ListN.{take, drop}
 use Rattle.record.specs.Record.{recordsOf}
 use Rattle.record.specs.declared.Record.{Record}
-use Rattle.screen.specs.Cases.{Case, case, screenCases, twoBytes, plain}
+use Rattle.screen.specs.Cases.{Case, case, screenCases, plain}
 use Rattle.screen.specs.Screen.{memorySize, fieldsOf}
-use Rattle.compiler.specs.Stream.{partsOf}
-use Rattle.compiler.specs.Compile.{commandSize, compiling, streamOf}
+use Rattle.command.specs.Command.{commandBytes}
+use Rattle.command.specs.Task.{task, commandsIn}
+use Rattle.compiler.specs.Compile.{compiling, streamOf}
 use Rattle.chip.specs.Play.{newChip, run, applied}
 use Rattle.unit.specs.Sheet.{sheetCommands}
 
 -- a command record: operation, raster code, rectangle, source, colour; on the main image
 abbrev pub command : ℕ → ℕ → ℕ → ℕ → ℕ → ℕ → ℕ → ℕ → ℕ → List ℕ
 command operation raster x y width height sx sy colour =
-    operation ∷ 0 ∷ raster ∷ 0
-    ∷ twoBytes x ++ twoBytes y ++ twoBytes width ++ twoBytes height ++ twoBytes sx ++ twoBytes sy ++ twoBytes colour
-    ++ (0 ∷ 0 ∷ 0 ∷ 0 ∷ 0 ∷ 0 ∷ 0 ∷ 0 ∷ 0 ∷ 0 ∷ 0 ∷ 0 ∷ 0 ∷ 0 ∷ [])
+    commandBytes (record { operation = operation; surface = 0; raster = raster; x = x; y = y; width = width; height = height; sx = sx; sy = sy; colour = colour })
 
 -- the numbers and values of records
 abbrev pairs : List Record → List ℕ
@@ -25,12 +24,12 @@ pairs (r ∷ rs) = r .number ∷ r .value ∷ pairs rs
 
 -- the records of a list without host words
 abbrev records : List ℕ → List ℕ → List Record
-records screen list = recordsOf (streamOf screen list [])
+records screen list = recordsOf (streamOf (task screen list []))
 
 -- what compiling gives: its number, the stream's length, and every record's number and value
 abbrev compiled : List ℕ → List ℕ → List ℕ
 compiled screen list =
-    let c = compiling memorySize screen list [] 1024 in c .number ∷ c .length ∷ pairs (records screen list)
+    let c = compiling memorySize (task screen list []) 1024 in c .number ∷ c .length ∷ pairs (records screen list)
 
 -- a move of 7 by 1 pixels on B2's screen, from x = from to x = to with code Ch: compiling's number and playing's, for a memory of 262,144
 -- bytes; operation, source and destination; then the line of eight bytes, which alone is drawn on, afterwards: by playing and on the sheet
@@ -39,11 +38,11 @@ moved from to =
     let screen = plain 8 0 8 1 0 in
     let list = command 1 0xC to 0 7 1 from 0 0 in
     let line : List ℕ = 1 ∷ 2 ∷ 3 ∷ 4 ∷ 5 ∷ 6 ∷ 7 ∷ 8 ∷ [] in
-    compiling memorySize screen list [] 1024 .number
+    compiling memorySize (task screen list []) 1024 .number
     ∷ run memorySize newChip 0 (records screen list) .number
     ∷ pairs (take 3 (drop 6 (records screen list)))
     ++ applied newChip (records screen list) line
-    ++ sheetCommands (fieldsOf screen) (partsOf commandSize list) [] line
+    ++ sheetCommands (fieldsOf screen) (commandsIn (task screen list [])) [] line
 
 unfoldable pub drawCases : List Case
 drawCases =

@@ -3,7 +3,8 @@ use Prim.Native.Nat.{ℕ, _<_}
 use mathlib.Core.Path.{_≡_}
 use mathlib.Core.List.{List}
 use mathlib.Core.Logic.{_↔_}
-use lib.ListN.{length, getD, take}
+use lib.ListN.{length, take}
+use Rattle.record.specs.Lists.{AllBelow}
 use Rattle.record.specs.Checks.{Row, firstOf, AllPass, FirstFails}
 use Rattle.screen.specs.Screen.{memorySize, fieldsOf, screenRows}
 use Rattle.screen.specs.Values.{valuesOf}
@@ -12,14 +13,11 @@ use Rattle.view.specs.Walk.{placeOf}
 use Rattle.view.specs.Shows.{Shows, shownBit}
 use Rattle.reader.specs.Read.{readRows, reading}
 use Rattle.reader.specs.declared.Display.{Display}
+use Rattle.command.specs.Task.{Task, screenIn}
 use Rattle.compiler.specs.Compile.{compiling, bufferAfter}
 use Rattle.chip.specs.Play.{playing, played}
 use Rattle.unit.specs.Sheet.{sheetAfter, sheetShows}
 use Rattle.unit.specs.Tables.{compileRows, playRows}
-
--- numbers below a limit: bytes below 256, host words below 65,536
-abbrev pub AllBelow : ℕ → List ℕ → Type 0
-AllBelow limit xs = (k : ℕ) → getD xs k 0 < limit
 
 -- Demand 1 of an answer's number and place, and a table: "accepted exactly when document 01's limits hold, else refused with the
 -- first number in 01's order"; the place is that of the row, and 0 on acceptance
@@ -31,9 +29,9 @@ pub record Decided (number place : ℕ) (rows : List Row) : Type 0 where
 -- Demand 1: each of compiling, playing and the point reader is decided by its table, and a refusal leaves every lent buffer
 -- as it was
 pub record Demand1 : Type 0 where
-  pub compiled : (bytes list words : List ℕ) (room : ℕ)
-      → let r = compiling memorySize bytes list words room in Decided (r .number) (r .place) (compileRows memorySize bytes list words room)
-  pub stream-kept : (bytes list words old : List ℕ) → 0 < compiling memorySize bytes list words (length old) .number → bufferAfter memorySize bytes list words old ≡ old
+  pub compiled : (t : Task) (room : ℕ)
+      → let r = compiling memorySize t room in Decided (r .number) (r .place) (compileRows memorySize t room)
+  pub stream-kept : (t : Task) (old : List ℕ) → 0 < compiling memorySize t (length old) .number → bufferAfter memorySize t old ≡ old
   pub plays : (stream memory : List ℕ)
       → let r = playing memorySize stream memory in Decided (r .number) (r .place) (playRows memorySize stream memory)
   pub memory-kept : (stream memory : List ℕ) → 0 < playing memorySize stream memory .number → played memorySize stream memory ≡ memory
@@ -51,30 +49,35 @@ Demand2 =
     (shownBit (fieldsOf bytes) p q)
 
 -- the stream in the length that compiling gave
-abbrev pub streamGiven : List ℕ → List ℕ → List ℕ → List ℕ → List ℕ
-streamGiven bytes list words buffer =
-    take (compiling memorySize bytes list words (length buffer) .length) (bufferAfter memorySize bytes list words buffer)
+abbrev pub streamGiven : Task → List ℕ → List ℕ
+streamGiven t buffer = take (compiling memorySize t (length buffer) .length) (bufferAfter memorySize t buffer)
 
 -- compiling's depth, rotation and flag, and the panel size
-abbrev pub displayGiven : List ℕ → List ℕ → List ℕ → List ℕ → Display
-displayGiven bytes list words buffer =
-    let c = compiling memorySize bytes list words (length buffer) in
-    record { depth = c .depth; rotation = c .rotation; flag = c .flag; width = fieldsOf bytes .width; height = fieldsOf bytes .height }
+abbrev pub displayGiven : Task → List ℕ → Display
+displayGiven t buffer =
+    let c = compiling memorySize t (length buffer) in
+    record { depth = c .depth; rotation = c .rotation; flag = c .flag; width = screenIn t .width; height = screenIn t .height }
 
--- what demand 3 claims of a screen record, a list, host words, a stream buffer and a memory: playing the stream is not refused;
+-- what demand 3 claims of a screen record, a list and host words, a stream buffer and a memory: playing the stream is not refused;
 -- the memory is then the sheet's; and at every panel point the reader, given playing's six values and the memory it left,
 -- gives the colour that the sheet shows
-pub record DrawnTruly (bytes list words buffer memory : List ℕ) : Type 0 where
-  pub not-refused : playing memorySize (streamGiven bytes list words buffer) memory .number ≡ 0
-  pub same-bytes : played memorySize (streamGiven bytes list words buffer) memory ≡ sheetAfter memorySize bytes list words (length buffer) memory
-  pub same-colours : (p q : ℕ) → p < fieldsOf bytes .width → q < fieldsOf bytes .height
-      → reading memorySize (displayGiven bytes list words buffer) (playing memorySize (streamGiven bytes list words buffer) memory .values) p q
-      (played memorySize (streamGiven bytes list words buffer) memory)
-      ≡ record { number = 0; place = 0; colour = sheetShows (fieldsOf bytes) (sheetAfter memorySize bytes list words (length buffer) memory) p q }
+pub record DrawnTruly (t : Task) (buffer memory : List ℕ) : Type 0 where
+  pub not-refused : playing memorySize (streamGiven t buffer) memory .number ≡ 0
+  pub same-bytes : played memorySize (streamGiven t buffer) memory ≡ sheetAfter memorySize t memory
+  pub same-colours : (p q : ℕ) → p < screenIn t .width → q < screenIn t .height
+      → reading memorySize (displayGiven t buffer) (playing memorySize (streamGiven t buffer) memory .values) p q
+      (played memorySize (streamGiven t buffer) memory)
+      ≡ record { number = 0; place = 0; colour = sheetShows (screenIn t) (sheetAfter memorySize t memory) p q }
+
+-- a task of bytes and 16-bit host words
+pub record InBytes (t : Task) : Type 0 where
+  pub screen : AllBelow 256 (t .screen)
+  pub list : AllBelow 256 (t .list)
+  pub words : AllBelow 65536 (t .words)
 
 -- Demand 3: "For any screen, list of up to 64 commands and host words that compile, and any memory of 262,144 bytes"
 abbrev pub Demand3 : Type 0
 Demand3 =
-    (bytes list words buffer memory : List ℕ) → AllBelow 256 bytes → AllBelow 256 list → AllBelow 65536 words → AllBelow 256 memory
-    → length memory ≡ memorySize → compiling memorySize bytes list words (length buffer) .number ≡ 0
-    → DrawnTruly bytes list words buffer memory
+    (t : Task) (buffer memory : List ℕ) → InBytes t → AllBelow 256 memory
+    → length memory ≡ memorySize → compiling memorySize t (length buffer) .number ≡ 0
+    → DrawnTruly t buffer memory

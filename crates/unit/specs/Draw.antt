@@ -8,7 +8,8 @@ use Rattle.record.specs.Checks.{Row, row, firstOf}
 use Rattle.screen.specs.Screen.{fieldsOf, screenRows}
 use Rattle.screen.specs.Values.{valuesOf}
 use Rattle.screen.specs.declared.ScreenValues.{ScreenValues}
-use Rattle.compiler.specs.Compile.{Compiling, compiling, bufferAfter}
+use Rattle.command.specs.Task.{Task, screenIn}
+use Rattle.compiler.specs.Compile.{compiling, bufferAfter}
 use Rattle.chip.specs.Play.{noValues}
 use Rattle.reader.specs.Read.{Reading}
 use Rattle.unit.specs.Sheet.{sheetAfter, sheetShows}
@@ -26,22 +27,21 @@ abbrev pub refusedBy : ℕ → ℕ → Drawing
 refusedBy n i = record { number = n; place = i; length = 0; values = noValues }
 
 -- 18 first, then compiling's refusals
-unfoldable pub drawing : ℕ → List ℕ → List ℕ → List ℕ → ℕ → List ℕ → Drawing
-drawing m bytes list words room memory =
-    let c = compiling m bytes list words room in
+unfoldable pub drawing : ℕ → Task → ℕ → List ℕ → Drawing
+drawing m t room memory =
+    let c = compiling m t room in
     cond (not (eqb (length memory) m)) (refusedBy 18 0)
     (cond (eqb (c .number) 0)
-    (record { number = 0; place = 0; length = c .length; values = valuesOf (fieldsOf bytes) })
+    (record { number = 0; place = 0; length = c .length; values = valuesOf (screenIn t) })
     (refusedBy (c .number) (c .place)))
 
 -- the memory afterwards is the sheet's; on refusal what it was
-unfoldable pub memoryDrawn : ℕ → List ℕ → List ℕ → List ℕ → ℕ → List ℕ → List ℕ
-memoryDrawn m bytes list words room memory =
-    cond (eqb (length memory) m) (sheetAfter m bytes list words room memory) memory
+unfoldable pub memoryDrawn : ℕ → Task → ℕ → List ℕ → List ℕ
+memoryDrawn m t room memory = cond (eqb (drawing m t room memory .number) 0) (sheetAfter m t memory) memory
 
 -- the stream buffer afterwards
-unfoldable pub streamDrawn : ℕ → List ℕ → List ℕ → List ℕ → List ℕ → List ℕ → List ℕ
-streamDrawn m bytes list words old memory = cond (eqb (length memory) m) (bufferAfter m bytes list words old) old
+unfoldable pub streamDrawn : ℕ → Task → List ℕ → List ℕ → List ℕ
+streamDrawn m t old memory = cond (eqb (length memory) m) (bufferAfter m t old) old
 
 -- 01's numbers of an answer: of a refusal all but number and place are 0
 unfoldable pub drawingOf : Drawn → Drawing

@@ -5,17 +5,16 @@ use mathlib.Core.Bool.{Bool, _&&_, cond}
 use lib.ListN.{length, getD, take, drop}
 use lib.Dec.{leb, eqb}
 use Rattle.record.specs.Bytes.{byteAt}
+use Rattle.record.specs.Lists.{tabulate}
 use Rattle.pixel.specs.Pixel.{byteOf}
 use Rattle.pixel.specs.Raster.{raster}
-use Rattle.screen.specs.Screen.{mainImage, windowImage, fieldsOf}
+use Rattle.screen.specs.Screen.{mainImage, windowImage}
 use Rattle.screen.specs.declared.Image.{Image}
 use Rattle.screen.specs.declared.Screen.{Screen}
 use Rattle.view.specs.View.{Pixel, pixelAt, viewPixel, among, inWindow, windowPixel}
-use Rattle.blit.specs.Rectangle.{tabulate}
-use Rattle.command.specs.Command.{commandOf, isFill, isMove, surfaceOf, lineWords, wordsTaken}
+use Rattle.command.specs.Command.{commandOf, byOperation, surfaceOf, lineWords, wordsTaken}
+use Rattle.command.specs.Task.{Task, screenIn, commandsIn, isAccepted}
 use Rattle.command.specs.declared.Command.{Command}
-use Rattle.compiler.specs.Stream.{partsOf}
-use Rattle.compiler.specs.Compile.{compiling, commandSize}
 
 -- pixel n of a byte's 8 ÷ depth pixels, each a number of depth bits, left to right from its highest bits
 abbrev pub fromLeft : ℕ → ℕ → ℕ → ℕ
@@ -36,15 +35,26 @@ hostPixel depth width words i j =
     cond (eqb depth 16) (getD words (line + i) 0)
     (cond (eqb (i % 2) 0) (getD words (line + i / 2) 0 % 256) (getD words (line + i / 2) 0 / 256))
 
--- what pixel (i, j) of a command's rectangle becomes, from what the sheet held just before
+-- s for pixel (i, j) of a command's rectangle: a fill's colour, what a move's source held just before, a write's host pixel
+unfoldable pub sheetSource : Screen → Command → List ℕ → List ℕ → ℕ → ℕ → ℕ
+sheetSource s c words old i j =
+    byOperation (c .operation)
+    (c .colour)
+    (sheetPixel (s .depth) (surfaceOf s c) old (pixelAt (c .sx + i) (c .sy + j)))
+    (hostPixel (s .depth) (c .width) words i j)
+
+-- what s and d make: a fill keeps s, a move and a write combine the two under the raster code
+unfoldable pub sheetMix : Screen → Command → ℕ → ℕ → ℕ
+sheetMix s c source d =
+    byOperation (c .operation)
+    source
+    (raster (s .depth) (c .raster) source d)
+    (raster (s .depth) (c .raster) source d)
+
+-- what pixel (i, j) becomes, from what the sheet held just before
 unfoldable pub newPixel : Screen → Command → List ℕ → List ℕ → ℕ → ℕ → ℕ
 newPixel s c words old i j =
-    let surface = surfaceOf s c in
-    let d = sheetPixel (s .depth) surface old (pixelAt (c .x + i) (c .y + j)) in
-    cond (isFill c) (c .colour)
-    (cond (isMove c)
-    (raster (s .depth) (c .raster) (sheetPixel (s .depth) surface old (pixelAt (c .sx + i) (c .sy + j))) d)
-    (raster (s .depth) (c .raster) (hostPixel (s .depth) (c .width) words i j) d))
+    sheetMix s c (sheetSource s c words old i j) (sheetPixel (s .depth) (surfaceOf s c) old (pixelAt (c .x + i) (c .y + j)))
 
 -- the byte at an address is byte `lane` of a surface's pixel
 abbrev pub sheetLine : Image → ℕ → ℕ
@@ -83,12 +93,9 @@ sheetCommands s (b ∷ bs) words old =
     let n = wordsTaken s (commandOf b) in
     sheetCommands s bs (drop n words) (sheetCommand s (commandOf b) (take n words) old)
 
--- the sheet after a whole list; a refused list changes nothing
-unfoldable pub sheetAfter : ℕ → List ℕ → List ℕ → List ℕ → ℕ → List ℕ → List ℕ
-sheetAfter m bytes list words room old =
-    cond (eqb (compiling m bytes list words room .number) 0)
-    (sheetCommands (fieldsOf bytes) (partsOf commandSize list) words old)
-    old
+-- the sheet after a task's whole list; a refused list changes nothing
+unfoldable pub sheetAfter : ℕ → Task → List ℕ → List ℕ
+sheetAfter m t old = cond (isAccepted m t) (sheetCommands (screenIn t) (commandsIn t) (t .words) old) old
 
 -- what the sheet shows at panel point (p, q)
 unfoldable pub sheetShows : Screen → List ℕ → ℕ → ℕ → ℕ

@@ -7,11 +7,11 @@ use lib.Dec.{eqb}
 use Rattle.record.specs.Checks.{Row, row, rowsAt}
 use Rattle.record.specs.Record.{recordsOf}
 use Rattle.record.specs.declared.Record.{Record}
-use Rattle.screen.specs.Screen.{fieldsOf, screenRows}
+use Rattle.screen.specs.Screen.{screenRows}
 use Rattle.screen.specs.declared.Screen.{Screen}
 use Rattle.command.specs.Command.{commandOf, wordsTaken, commandRows}
-use Rattle.compiler.specs.Stream.{partsOf}
-use Rattle.compiler.specs.Compile.{commandSize, listRows, endRows}
+use Rattle.command.specs.Task.{Task, screenIn, commandsIn, listRows, wordRows}
+use Rattle.compiler.specs.Compile.{roomRows}
 use Rattle.chip.specs.Admit.{admitRows, chipAfter}
 use Rattle.chip.specs.Play.{newChip}
 use Rattle.chip.specs.declared.Chip.{Chip}
@@ -23,12 +23,17 @@ listedRows s i left [] = []
 listedRows s i left (b ∷ bs) =
     rowsAt i (commandRows s left b (commandOf b)) ++ listedRows s (suc i) (left - wordsTaken s (commandOf b)) bs
 
+-- "1 to 11, then 12 to 15 command by command, then 16"
+unfoldable pub taskRows : ℕ → Task → List Row
+taskRows m t =
+    screenRows m (t .screen)
+    ++ (listRows (t .size) (screenIn t) (t .list)
+    ++ (listedRows (screenIn t) 0 (length (t .words)) (commandsIn t)
+    ++ wordRows t))
+
 -- "Compiling checks 1 to 11, then 12 to 15 command by command, then 16, 17"
-unfoldable pub compileRows : ℕ → List ℕ → List ℕ → List ℕ → ℕ → List Row
-compileRows m bytes list words room =
-    let s = fieldsOf bytes in
-    let commands = partsOf commandSize list in
-    screenRows m bytes ++ (listRows commandSize s list ++ (listedRows s 0 (length words) commands ++ endRows s commands words room))
+unfoldable pub compileRows : ℕ → Task → ℕ → List Row
+compileRows m t room = taskRows m t ++ roomRows t room
 
 -- 20 to 23 record by record, of which the first has index i; the end last: 23 while data is due. A refusal's place is the index of
 -- the record, and at the end the record count

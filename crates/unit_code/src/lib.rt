@@ -2,12 +2,12 @@
 ghost use mathlib.Core.Path.{_≡_};
 ghost use lib.ListN.{length};
 ghost use Rattle.screen.specs.Screen.{memorySize};
+ghost use Rattle.command.specs.Task.{task};
 ghost use Rattle.reader.specs.Read.{readingOf};
 ghost use Rattle.reader.specs.Read.{answerOf as reader·answerOf};
 ghost use Rattle.unit.specs.Draw.{drawing, drawingOf, answerOf, memoryDrawn, streamDrawn, showing};
 use chip::Played;
 use compiler::Compiled;
-use reader::Display;
 use reader::PointAnswer;
 use screen::Screen;
 use screen::ScreenAnswer;
@@ -22,10 +22,10 @@ pub fn draw(
     stream: &mut [u8],
     memory: &mut [u8],
 ) -> Drawn
-    ensures { λ r. ⌜ drawingOf r ≡ drawing memorySize (now (screen .entry)) (now (list .entry)) (now (words .entry)) (length (now (stream .entry))) (now (memory .entry)) ⌝ }
-    ensures { λ r. ⌜ r ≡ answerOf (drawing memorySize (now (screen .entry)) (now (list .entry)) (now (words .entry)) (length (now (stream .entry))) (now (memory .entry))) ⌝ }
-    ensures { λ r. ⌜ now (stream .exit) ≡ streamDrawn memorySize (now (screen .entry)) (now (list .entry)) (now (words .entry)) (now (stream .entry)) (now (memory .entry)) ⌝ }
-    ensures { λ r. ⌜ now (memory .exit) ≡ memoryDrawn memorySize (now (screen .entry)) (now (list .entry)) (now (words .entry)) (length (now (stream .entry))) (now (memory .entry)) ⌝ }
+    ensures { λ r. ⌜ drawingOf r ≡ drawing memorySize (task (now (screen .entry)) (now (list .entry)) (now (words .entry))) (length (now (stream .entry))) (now (memory .entry)) ⌝ }
+    ensures { λ r. ⌜ r ≡ answerOf (drawing memorySize (task (now (screen .entry)) (now (list .entry)) (now (words .entry))) (length (now (stream .entry))) (now (memory .entry))) ⌝ }
+    ensures { λ r. ⌜ now (stream .exit) ≡ streamDrawn memorySize (task (now (screen .entry)) (now (list .entry)) (now (words .entry))) (now (stream .entry)) (now (memory .entry)) ⌝ }
+    ensures { λ r. ⌜ now (memory .exit) ≡ memoryDrawn memorySize (task (now (screen .entry)) (now (list .entry)) (now (words .entry))) (length (now (stream .entry))) (now (memory .entry)) ⌝ }
 {
     if memory.len() != 262144 {
         return Drawn::Refused(18, 0);
@@ -37,7 +37,7 @@ pub fn draw(
             let end = length as usize;
             let played = chip_code::play(&stream[0..end], memory);
             match played {
-                Played::Refused(n, i) => Drawn::Refused(n, i as u64),
+                Played::Refused(n, i) => Drawn::Refused(n, i),
                 Played::Accepted(values) => Drawn::Accepted(length, values),
             }
         }
@@ -56,13 +56,7 @@ pub fn shown(screen: &[u8], p: u32, q: u32, memory: &[u8]) -> PointAnswer
     match answer {
         ScreenAnswer::Refused(n) => PointAnswer::Refused(n),
         ScreenAnswer::Accepted(s) => {
-            let d = Display {
-                depth: s.depth as u32,
-                rotation: s.rotation as u32,
-                flag: s.flag as u32,
-                width: s.width as u32,
-                height: s.height as u32,
-            };
+            let d = reader_code::display_of(s);
             let values = screen_values::screen_values(s);
             reader_code::read_point(d, values, p, q, memory)
         }

@@ -10,7 +10,7 @@ use Rattle.pixel.specs.Depth.{perDword}
 use Rattle.screen.specs.Screen.{viewWidth, viewHeight, mainImage, windowImage, fieldRows}
 use Rattle.screen.specs.Values.{valuesOf}
 use Rattle.screen.specs.declared.Screen.{Screen}
-use Rattle.screen.proofs.Accepted.{accepted, main-aligned, main-line}
+use Rattle.screen.proofs.Accepted.{accepted, main-aligned}
 use Rattle.screen.proofs.Values.{main-value, window-value}
 use Rattle.view.specs.View.{viewPixel, inWindow, windowPixel, bitAddress}
 use Rattle.view.specs.Walk.{walk, inWindowBy, placeOf}
@@ -47,7 +47,7 @@ module _ (m : ℕ) (s : Screen) (f : firstOf (fieldRows m s) ≡ 0) (p q : ℕ) 
       let c = covers (s .rotation) s refl (a .rotation) in
       rw (main-value s)
       (rw (c .0, c .1) at
-      (image-shows m (perDword (s .depth)) (s .depth) (mainImage s) (main-aligned m s a) (main-line s) (a .ends) (s .rotation) p q (a .rotation) (omega (arith, c .0)) (omega (arith, c .1))))
+      (image-shows m (perDword (s .depth)) (s .depth) (mainImage s) (main-aligned m s a) (a .ends) (s .rotation) p q (a .rotation) (omega (arith, c .0)) (omega (arith, c .1))))
 
   -- by the registers a point is the window's exactly where its view pixel lies in the window
   takes-by : (t : Bool) → eqb (s .flag) 1 ≡ t → (t && inWindowBy (s .rotation) (perDword (s .depth)) (valuesOf s .x) (valuesOf s .y) p q) ≡ inWindow s (viewPixel (s .rotation) (s .width) (s .height) p q)

@@ -7,14 +7,14 @@ use native.Mathlib.Nat.{mod-lt, mul-comm, mul-le-mul-left, mul-le-mul-right}
 use lib.Dec.{eqb}
 use Rattle.pixel.specs.Depth.{perDword}
 use Rattle.pixel.proofs.Depth.{factor-pos, pos-left, per-dword-is, split, back, from-end}
-use Rattle.screen.specs.Image.{lineBytes, imageEnd}
+use Rattle.screen.specs.Image.{imageEnd}
 use Rattle.screen.specs.Screen.{viewWidth, viewHeight}
 use Rattle.screen.specs.Values.{originOf}
 use Rattle.screen.specs.declared.Image.{Image}
 use Rattle.screen.specs.declared.Origin.{Origin}
 use Rattle.screen.specs.declared.ScreenValues.{ScreenValues}
 use Rattle.screen.proofs.Accepted.{Aligned}
-use Rattle.screen.proofs.Starts.{offset, row, start0, start1, start2, start3, end-is}
+use Rattle.screen.proofs.Starts.{bits, offset, row, start0, start1, start2, start3, end-is}
 use Rattle.view.specs.View.{Pixel, viewPixel, bitAddress}
 use Rattle.view.specs.Walk.{walk, inWindowBy, placeOf}
 use Rattle.view.specs.Shows.{Shows}
@@ -31,8 +31,8 @@ panelHeight r i = viewHeight r (i .width) (i .height)
 abbrev pub pixelOf : ℕ → Image → ℕ → ℕ → Pixel
 pixelOf r i p q = viewPixel r (panelWidth r i) (panelHeight r i) p q
 
--- an image in whole dwords, of lines as long as it is wide
-module _ (k d : ℕ) (i : Image) (a : Aligned k d i) (shown : i .line ≡ lineBytes d (i .width)) where
+-- an image in whole dwords
+module _ (k d : ℕ) (i : Image) (a : Aligned k d i) where
   -- the walk's dwords and pixels have as many bits as come before the image's pixel
   abbrev pub Reaches : ℕ → ℕ → ℕ → Type 0
   Reaches r p q =
@@ -71,12 +71,12 @@ module _ (k d : ℕ) (i : Image) (a : Aligned k d i) (shown : i .line ≡ lineBy
   unfolding walk originOf viewPixel bitAddress viewWidth viewHeight offsets
   reach2 p q h g =
       omega
-      (arith, start2 k d i a shown, a .base-is, lines (i .height - 1 - q), lines-up q g, split k d (a .whole) p, back k d (a .whole) p, pixels-back p h, offsets q)
+      (arith, start2 k d i a, a .base-is, lines (i .height - 1 - q), lines-up q g, split k d (a .whole) p, back k d (a .whole) p, pixels-back p h, offsets q)
 
   reach3 : (p q : ℕ) → p < i .height → Reaches 3 p q
   unfolding walk originOf viewPixel bitAddress viewWidth viewHeight offsets
   reach3 p q h =
-      omega (arith, start3 k d i a shown, a .base-is, lines (i .height - 1 - p), lines-up p h, split k d (a .whole) q, offsets p)
+      omega (arith, start3 k d i a, a .base-is, lines (i .height - 1 - p), lines-up p h, split k d (a .whole) q, offsets p)
 
   pub reaches : (r p q : ℕ) → r < 4 → p < panelWidth r i → q < panelHeight r i → Reaches r p q
   unfolding viewWidth viewHeight
@@ -121,10 +121,7 @@ module _ (k d : ℕ) (i : Image) (a : Aligned k d i) where
   unfolding bitAddress imageEnd
   bits-in x hu hv =
       let f : x .v ≤ i .height - 1 = omega arith in
-      omega (arith, row k d i a, bits, mul-le-mul-right d hu, mul-le-mul-right (i .line) f)
-    where
-      bits : i .width * d ≡ 32 * a .m
-      bits = omega (arith, ap (λ (x : ℕ). x * d) (a .width-is), ap (λ (x : ℕ). x * a .m) (a .whole))
+      omega (arith, row k d i a, bits k d i a, mul-le-mul-right d hu, mul-le-mul-right (i .line) f)
 
 -- what the equation says of the dword, and of the pixel in it
 module _ (m k d : ℕ) (kd : k * d ≡ 32) (w : Place) (bit end : ℕ) (low : w .pixel < k) (e : 32 * w .up + d * w .pixel ≡ 32 * w .down + bit) (inside : bit + d ≤ 32 * end) (fits : 4 * end ≤ m) where
@@ -145,12 +142,12 @@ module _ (m k d : ℕ) (kd : k * d ≡ 32) (w : Place) (bit end : ℕ) (low : w 
       }
 
 -- the walk over an image in a memory of m bytes
-module _ (m k d : ℕ) (i : Image) (a : Aligned k d i) (shown : i .line ≡ lineBytes d (i .width)) (fits : imageEnd d i ≤ m) where
+module _ (m k d : ℕ) (i : Image) (a : Aligned k d i) (fits : imageEnd d i ≤ m) where
   pub image-shows : (r p q : ℕ) → r < 4 → p < panelWidth r i → q < panelHeight r i → Shows m d (walk r k (originOf r d i) p q) (bitAddress d i (pixelOf r i p q))
   image-shows r p q h pw qh =
       let v = pixel-in r i p q h pw qh in
       shows-of m k d (a .whole) (walk r k (originOf r d i) p q) (bitAddress d i (pixelOf r i p q)) (a .b + (i .height - 1) * a .l + a .m)
       (low-pixel r k (originOf r d i) p q (pos-left k d (a .whole)) h)
-      (reaches k d i a shown r p q h pw qh)
+      (reaches k d i a r p q h pw qh)
       (omega (arith, bits-in k d i a (pixelOf r i p q) (v .0) (v .1), end-is k d i a))
       (omega (arith, end-is k d i a))

@@ -13,7 +13,7 @@ use Rattle.pixel.proofs.Depth.{pos-left}
 use Rattle.screen.specs.Screen.{quarter, viewWidth, viewHeight, windowImage, fieldRows}
 use Rattle.screen.specs.Values.{originOf, valuesOf}
 use Rattle.screen.specs.declared.Screen.{Screen}
-use Rattle.screen.proofs.Accepted.{accepted, window-limits, window-line}
+use Rattle.screen.proofs.Accepted.{accepted, window-limits}
 use Rattle.screen.proofs.Values.{main-width, main-height}
 use Rattle.screen.proofs.Spans.{Span, unitX, unitY, nearX, nearY, countX, countY, across, down, near-edge, inside, inside-back}
 use Rattle.view.specs.View.{Pixel, pixelAt, viewPixel, among, inWindow, windowPixel, bitAddress}
@@ -210,4 +210,4 @@ module _ (m : ℕ) (s : Screen) (f : firstOf (fieldRows m s) ≡ 0) (on : s .fla
       let b = window-limits m s f on in
       let l = local (s .rotation) refl g p q pw qh t in
       rw (l .2) at
-      (image-shows m (perDword (s .depth)) (s .depth) (windowImage s) (b .image) (window-line s) (b .ends) (s .rotation) _ _ g (l .0) (l .1))
+      (image-shows m (perDword (s .depth)) (s .depth) (windowImage s) (b .image) (b .ends) (s .rotation) _ _ g (l .0) (l .1))

@@ -1,6 +1,7 @@
 // The chip's walk from its registers to a panel point.
 ghost use mathlib.Core.Path.{_≡_};
-ghost use mathlib.Core.Bool.{true};
+ghost use mathlib.Core.Bool.{true, _&&_, cond};
+ghost use lib.Dec.{eqb};
 ghost use Prim.Native.Nat.{_+_, _*_, _≤_, _<_};
 ghost use Rattle.screen.specs.Fields.{valuesFit};
 ghost use Rattle.view.specs.Walk.{walk, between, inWindowBy, cornerP, cornerQ, placeOf};
@@ -8,46 +9,48 @@ use screen::Origin;
 use screen::ScreenValues;
 use view::Place;
 
-// The chip's walk from an image's registers to point (p, q), k pixels to a dword.
+// One of two numbers.
+fn chosen(first: bool, a: u32, b: u32) -> u32
+    ensures { λ r. ⌜ r ≡ cond first a b ⌝ }
+{
+    if first { a } else { b }
+}
+
+// The chip's walk from an image's registers to point (p, q), k pixels to a dword: so many dwords and pixels along a line of the image,
+// after so many lines.
 fn walk_to(rotation: u32, k: u32, at: Origin, p: u32, q: u32) -> Place
     requires { ⌜ (at .start ≤ 65535) × (at .offset ≤ 1023) ⌝ }
     ensures { λ r. ⌜ r ≡ walk rotation k at p q ⌝ }
 {
     let start = at.start;
-    let offset = at.offset;
+    let level = (rotation == 0) | (rotation == 2);
+    let along = chosen(level, p, q) as u64;
+    let lines = chosen(level, q, p) as u64 * at.offset;
     let per = k as u64;
-    let column = p as u64 * offset;
-    let line = q as u64 * offset;
-    let p_dword = record_code::quotient(p as u64, per);
-    let q_dword = record_code::quotient(q as u64, per);
-    let p_pixel = record_code::remainder(p as u64, per);
-    let q_pixel = record_code::remainder(q as u64, per);
-    let last = record_code::minus(per, 1);
-    if rotation == 0 {
-        return Place {
-            up: start + line + p_dword,
+    let dwords = record_code::quotient(along, per);
+    let pixel = record_code::remainder(along, per);
+    let back = record_code::minus(record_code::minus(per, 1), pixel);
+    match rotation {
+        0 => Place {
+            up: start + lines + dwords,
             down: 0,
-            pixel: p_pixel,
-        };
-    }
-    if rotation == 1 {
-        return Place {
-            up: start + column,
-            down: q_dword,
-            pixel: record_code::minus(last, q_pixel),
-        };
-    }
-    if rotation == 2 {
-        return Place {
+            pixel,
+        },
+        1 => Place {
+            up: start + lines,
+            down: dwords,
+            pixel: back,
+        },
+        2 => Place {
             up: start,
-            down: line + p_dword,
-            pixel: record_code::minus(last, p_pixel),
-        };
-    }
-    Place {
-        up: start + q_dword,
-        down: column,
-        pixel: q_pixel,
+            down: lines + dwords,
+            pixel: back,
+        },
+        _ => Place {
+            up: start + dwords,
+            down: lines,
+            pixel,
+        },
     }
 }
 
@@ -58,10 +61,13 @@ fn is_between(v: u64, t: u64) -> bool
     (v % 1024 <= t) & (t <= v / 65536 % 1024)
 }
 
-// Whether the chip takes a point for one of the window's.
-fn in_window(rotation: u32, k: u32, x: u64, y: u64, p: u32, q: u32) -> bool
-    ensures { λ r. ⌜ r ≡ inWindowBy rotation k x y p q ⌝ }
+// Whether the chip takes a point for one of the window's: with flag 1 alone.
+fn in_window(flag: u32, rotation: u32, k: u32, x: u64, y: u64, p: u32, q: u32) -> bool
+    ensures { λ r. ⌜ r ≡ (eqb flag 1 && inWindowBy rotation k x y p q) ⌝ }
 {
+    if flag != 1 {
+        return false;
+    }
     if (rotation == 1) | (rotation == 3) {
         is_between(x, p as u64) & is_between(y, record_code::quotient(q as u64, k as u64))
     } else {
@@ -99,8 +105,7 @@ pub fn place_of(depth: u32, rotation: u32, flag: u32, values: ScreenValues, p: u
     let k = pixel_code::per_dword(depth);
     let main = values.main;
     let window = values.window;
-    let taken = in_window(rotation, k, values.x, values.y, p, q);
-    if (flag == 1) & taken {
+    if in_window(flag, rotation, k, values.x, values.y, p, q) {
         let x = record_code::minus(p as u64, corner_p(rotation, k, values.x));
         let y = record_code::minus(q as u64, corner_q(rotation, k, values.y));
         return walk_to(rotation, k, window, x as u32, y as u32);

@@ -1,9 +1,7 @@
-use mathlib.Core.Path.{sym, ap}
 use Prim.Native.Nat.{ℕ, _+_, _-_, _*_}
 use native.Mathlib.Omega.{arith}
 use lib.ListN.{length-replicate, replicate}
-use Rattle.blit_code.specs.Lines.{codeOf}
-use Rattle.blit_code.proofs.Lines.{colour-back, fill-back, line-bytes, to-room, to-zero}
+use Rattle.blit_code.proofs.Lines.{colour-back, fill-back, lent-line, line-bytes, to-room, to-zero}
 use Rattle.blit_code.proofs.Lift.{part-length}
 use borrow.Author.Needs.{needs}
 use Rattle.blit_code.proofs.colour_line.Statement.{statement}
@@ -41,8 +39,8 @@ part-fill-worker-end c =
 fill-worker-requires : tie.Need-fill-worker-requires
 fill-worker-requires c κs = search needs
 
-enum-known-mix : tie.Need-enum-known-mix
-enum-known-mix c = search needs
+enum-told-2 : tie.Need-enum-told-2
+enum-told-2 c = search needs
 
 colour-source-requires : tie.Need-colour-source-requires
 colour-source-requires c κs = search needs
@@ -55,7 +53,7 @@ part-pixel-worker-start c = search needs
 
 part-pixel-worker-end : tie.Need-part-pixel-worker-end
 part-pixel-worker-end c =
-    let to = c .before .before .before .before .before in
+    let to = c .before .before .before .before in
     let p = to .before .before .pre in
     to-room _ _ (p .0) _ _ (p .1) (to .low-end .ensures)
 
@@ -64,9 +62,9 @@ slice-aggregate-pixel-worker c = search needs
 
 pixel-worker-requires : tie.Need-pixel-worker-requires
 pixel-worker-requires c κs =
-    let to = c .before .before .before .before .before .before .before in
+    let to = c .before .before .before .before .before .before in
     let p = to .before .before .pre in
-    (p .0 .some-bytes, p .0 .few-bytes, p .0 .width, part-length _ _ _ (to-room _ _ (p .0) _ _ (p .1) (to .low-end .ensures)), omega (arith, line-bytes _ _ (p .0)))
+    (lent-line _ _ (p .0) _ (part-length _ _ _ (to-room _ _ (p .0) _ _ (p .1) (to .low-end .ensures))), omega (arith, line-bytes _ _ (p .0)))
 
 same-length : tie.Need-same-length
 same-length c = search needs
@@ -88,12 +86,12 @@ returns-2 : tie.Need-returns-2
 returns-2 c =
     let worked = c .before .before in
     let same = worked .before .before .before in
-    let to = same .before .before .before .before .before in
+    let to = same .before .before .before .before in
     let a = to .before .before .args in
     let p = to .before .before .pre in
     let b = a .job in
     colour-back b (a .memory .now) (p .0) (a .j) (a .colour) _ (_ + b .width * b .bytes - _) (b .width) _ (replicate 2048 0) _ _ (p .1) (p .2)
-    (to .low-end .ensures) (omega arith) (ap codeOf (sym (same .before .before .mix .given .1))) (omega arith)
+    (to .low-end .ensures) (omega arith) (same .before .enum-told2 .given .1) (omega arith)
     (omega (arith, line-bytes _ _ (p .0), length-replicate {0} {A = ℕ} 2048 0)) (same .colour-source .ensures) (worked .pixel-worker .ensures)
 
 pub colour-line-spec : {M : Type 1} → statement M
@@ -108,7 +106,7 @@ colour-line-spec =
     part-fill-worker-start
     part-fill-worker-end
     fill-worker-requires
-    enum-known-mix
+    enum-told-2
     colour-source-requires
     sub-pixel-worker
     part-pixel-worker-start

@@ -21,7 +21,12 @@ slice-aggregate-fill-worker c =
 fill-worker-requires : tie.Need-fill-worker-requires
 fill-worker-requires c κs =
     let p = c .before .pre in
-    (p .0, p .1, p .2, simp length-take (omega (arith, mul-le-mul (p .2) (p .1), length-replicate {0} {A = ℕ} 2048 0)))
+    record {
+      some-bytes = p .0;
+      few-bytes = p .1;
+      few = p .2;
+      size = simp length-take (omega (arith, mul-le-mul (p .2) (p .1), length-replicate {0} {A = ℕ} 2048 0));
+    }
 
 returns : tie.Need-returns
 returns c =

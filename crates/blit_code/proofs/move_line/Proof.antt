@@ -2,7 +2,7 @@ use mathlib.Core.Path.{ap, _∙_}
 use Prim.Native.Nat.{ℕ, _+_, _-_, _*_}
 use native.Mathlib.Omega.{arith}
 use Rattle.blit.specs.Line.{copied}
-use Rattle.blit_code.proofs.Lines.{from-room, from-zero, line-bytes, move-back, to-room, to-zero}
+use Rattle.blit_code.proofs.Lines.{from-room, from-zero, lent-line, line-bytes, move-back, to-room, to-zero}
 use Rattle.blit_code.proofs.Lift.{part-length}
 use borrow.Author.Needs.{needs}
 use Rattle.blit_code.proofs.move_line.Statement.{statement}
@@ -30,12 +30,9 @@ copy-bytes-requires c κs =
 lag-of-requires : tie.Need-lag-of-requires
 lag-of-requires c κs = search needs
 
-code-of-requires : tie.Need-code-of-requires
-code-of-requires c κs = search needs
-
 add-e : tie.Need-add-e
 add-e c =
-    let to = c .before .before .before .before .before .before .before .before in
+    let to = c .before .before .before .before .before .before .before in
     let p = to .before .before .before .before .pre in
     omega (arith, p .0 .memory, to-room _ _ (p .0) _ _ (p .1) (to .low-end2 .ensures))
 
@@ -47,15 +44,15 @@ part-line-worker-start c = search needs
 
 part-line-worker-end : tie.Need-part-line-worker-end
 part-line-worker-end c =
-    let to = c .before .before .before .before .before .before .before .before in
+    let to = c .before .before .before .before .before .before .before in
     let p = to .before .before .before .before .pre in
     to-room _ _ (p .0) _ _ (p .1) (to .low-end2 .ensures)
 
 line-worker-requires : tie.Need-line-worker-requires
 line-worker-requires c κs =
-    let to = c .before .before .before .before .before .before .before .before .before .before in
+    let to = c .before .before .before .before .before .before .before .before .before in
     let p = to .before .before .before .before .pre in
-    (p .0 .some-bytes, p .0 .few-bytes, p .0 .width, part-length _ _ _ (to-room _ _ (p .0) _ _ (p .1) (to .low-end2 .ensures)), omega (arith, line-bytes _ _ (p .0)))
+    (lent-line _ _ (p .0) _ (part-length _ _ _ (to-room _ _ (p .0) _ _ (p .1) (to .low-end2 .ensures))), omega (arith, line-bytes _ _ (p .0)))
 
 same-length : tie.Need-same-length
 same-length c = search needs
@@ -66,15 +63,15 @@ same-length-2 c = search needs
 returns : tie.Need-returns
 returns c =
     let worked = c .before .before in
-    let coded = worked .before .before .before in
-    let copy = coded .before .before .before .before in
+    let lagged = worked .before .before .before in
+    let copy = lagged .before .before .before in
     let to = copy .before .before .before .before in
     let from = to .before in
     let a = from .before .before .before .args in
     let p = from .before .before .before .pre in
     let b = a .job in (
-      move-back b (a .memory .now) (p .0) (a .j) (a .from) _ _ (_ + b .width * b .bytes - _) _ _ (a .source .now) _ _ (p .1) (p .2)
-          (from .low-end .ensures) (to .low-end2 .ensures) (omega arith) (coded .code-of .ensures) (coded .before .lag-of .ensures)
+      move-back b (a .memory .now) (p .0) (a .j) (a .from) _ _ (_ + b .width * b .bytes - _) _ (a .source .now) _ _ (p .1) (p .2)
+          (from .low-end .ensures) (to .low-end2 .ensures) (omega arith) (lagged .lag-of .ensures)
           (omega (arith, line-bytes _ _ (p .0))) (copy .copy-bytes .ensures) (worked .line-worker .ensures),
       copy .copy-bytes .ensures ∙ ap (λ (x : ℕ). copied (a .memory .now) x (b .width * b .bytes) (a .source .now)) (from .low-end .ensures),
     )
@@ -88,7 +85,6 @@ move-line-spec =
     mul-size
     copy-bytes-requires
     lag-of-requires
-    code-of-requires
     add-e
     sub-line-worker
     part-line-worker-start

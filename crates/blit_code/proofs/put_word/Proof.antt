@@ -10,9 +10,6 @@ use Rattle.blit_code.proofs.put_word.Tie as tie
 word-bytes-requires : tie.Need-word-bytes-requires
 word-bytes-requires c κs = search needs
 
-code-of-requires : tie.Need-code-of-requires
-code-of-requires c κs = search needs
-
 mul-e : tie.Need-mul-e
 mul-e c = search needs
 
@@ -33,13 +30,15 @@ slice-aggregate-line-worker c = search needs
 
 line-worker-requires : tie.Need-line-worker-requires
 line-worker-requires c κs =
-    let a = c .before .before .before .before .before .args in
-    let p = c .before .before .before .before .before .pre in (
-      p .0,
-      p .1,
-      omega (arith, div-le-self 2 (a .bytes)),
-      part-length _ _ _ (p .3),
-      rw (c .before .before .before .word-bytes .ensures) (le-div-iff-mul-le (p .0) .0 (p .2)),
+    let start = c .before .before .before .before in
+    let p = start .pre in (
+      record {
+        some-bytes = p .0;
+        few-bytes = p .1;
+        few = omega (arith, div-le-self 2 (start .args .bytes));
+        size = part-length _ _ _ (p .3);
+      },
+      rw (c .before .before .word-bytes .ensures) (le-div-iff-mul-le (p .0) .0 (p .2)),
     )
 
 same-length : tie.Need-same-length
@@ -48,19 +47,18 @@ same-length c = search needs
 returns : tie.Need-returns
 returns c =
     let worked = c .before .before in
-    let coded = worked .before .before .before in
-    let start = coded .before .before .before in
+    let cut = worked .before .before .before in
+    let start = cut .before .before in
     let a = start .args in
     let p = start .pre in
-    word-back (a .bytes) (a .mix) (a .at) (a .count) (a .at + a .count * a .bytes - a .at) (a .word) _ (a .memory .now) _ _
-    (omega arith) (p .3) (omega arith) (coded .code-of .ensures) (coded .before .word-bytes .ensures) (worked .line-worker .ensures)
+    word-back (a .bytes) (a .mix) (a .at) (a .count) (a .at + a .count * a .bytes - a .at) (a .word) (a .memory .now) _ _
+    (omega arith) (p .3) (omega arith) (cut .word-bytes .ensures) (worked .line-worker .ensures)
 
 pub put-word-spec : {M : Type 1} → statement M
 put-word-spec =
     tie.close
     (tie.spec
     word-bytes-requires
-    code-of-requires
     mul-e
     add-e
     sub-line-worker

@@ -1,88 +1,92 @@
-use mathlib.Core.Path.{_≡_, ap, _∙_}
-use Prim.Native.Nat.{_-_, _*_, _≤_}
-use native.Mathlib.Numerals.{add-one}
+use mathlib.Core.Path.{_≡_, sym, ap, _∙_}
+use mathlib.Core.List.{List}
+use Prim.Native.Nat.{ℕ, _*_}
 use native.Mathlib.Omega.{arith}
-use borrow.Author.Needs.{needs}
-use lib.ListN.{length}
 use Rattle.pixel.specs.Pixel.{getPixel}
-use Rattle.pixel.specs.Raster.{raster}
-use Rattle.pixel.proofs.Pixels.{length-put}
+use Rattle.blit.specs.Job.{mixOf}
 use Rattle.blit.specs.Line.{straightLine}
-use Rattle.blit.proofs.Runs.{step-fits}
-use Rattle.blit.proofs.Worker.{straight-none, straight-more, straight-end}
+use Rattle.blit.specs.declared.Mix.{Mix}
+use Rattle.blit.proofs.Copy.{straight-copied}
+use borrow.Author.Needs.{needs}
 use Rattle.blit_line.proofs.combine_pixels.Statement.{statement}
 use Rattle.blit_line.proofs.combine_pixels.Tie as tie
 
-abbrev Inv-loop : tie.InvT-loop
-Inv-loop line₀ bytes width code source i₀ line i = (i ≤ width) × (length line ≡ width * bytes) × (line ≡ straightLine bytes (raster (8 * bytes) code) (λ k. getPixel bytes source (k * bytes)) i line₀)
+-- the line under a mix
+abbrev mixedLine : ℕ → ℕ → List ℕ → List ℕ → Mix → List ℕ
+mixedLine bytes width source line mix = straightLine bytes (mixOf mix bytes) (λ i. getPixel bytes source (i * bytes)) width line
 
-abbrev μ-loop : tie.MeasureT-loop
-μ-loop line₀ bytes width code source i₀ line i = width - i
+enum-told : tie.Need-enum-told
+enum-told c = search needs
 
-loop-holds : tie.Need-loop-holds Inv-loop μ-loop
-loop-holds c = (omega arith, omega arith, straight-none _ _ _ _)
+mul-copy-bytes : tie.Need-mul-copy-bytes
+mul-copy-bytes c = search needs
 
-mul-get-pixel : tie.Need-mul-get-pixel Inv-loop μ-loop
-mul-get-pixel c =
-    let a = c .before .before .before .before .args in
-    omega (arith, step-fits (a .bytes) (c .before .loop .i) (a .width) (omega arith))
+copy-bytes-requires : tie.Need-copy-bytes-requires
+copy-bytes-requires c κs = search needs
 
-get-pixel-requires : tie.Need-get-pixel-requires Inv-loop μ-loop
-get-pixel-requires c κs =
-    let a = c .before .before .before .before .args in
-    omega (arith, step-fits (a .bytes) (c .before .loop .i) (a .width) (omega arith))
+enum-known-mix : tie.Need-enum-known-mix
+enum-known-mix c = search needs
 
-mul-combine-pixel : tie.Need-mul-combine-pixel Inv-loop μ-loop
-mul-combine-pixel c =
-    let l = c .before .before .before .loop in
-    let a = c .before .before .before .before .before .before .args in
-    omega (arith, step-fits (a .bytes) (l .i) (a .width) (omega arith))
+raster-pixels-requires : tie.Need-raster-pixels-requires
+raster-pixels-requires c κs =
+    let a = c .before .before .before .before .before .before .before .args in
+    omega (arith, ap (λ (k : ℕ). a .width * k) (c .before .if1 .taken))
 
-combine-pixel-requires : tie.Need-combine-pixel-requires Inv-loop μ-loop
-combine-pixel-requires c κs =
-    let l = c .before .before .before .loop in
-    let a = c .before .before .before .before .before .before .args in
-    omega (arith, step-fits (a .bytes) (l .i) (a .width) (omega arith))
+raster-pixels-requires-2 : tie.Need-raster-pixels-requires-2
+raster-pixels-requires-2 c κs =
+    let a = c .before .before .before .before .before .before .before .args in
+    let two : a .bytes ≡ 2 = omega arith in
+    omega (arith, ap (λ (k : ℕ). a .width * k) two)
 
-add-i : tie.Need-add-i Inv-loop μ-loop
-add-i c = search needs
-
-loop-less : tie.Need-loop-less Inv-loop μ-loop
-loop-less c = search needs
-
-loop-again : tie.Need-loop-again Inv-loop μ-loop
-loop-again c =
-    let put = c .before .before in
-    let fetched = put .before .before in
-    let l = fetched .before .before .loop in
-    let a = fetched .before .before .before .before .before .args in (
-      omega arith,
-      ap length (put .combine-pixel .ensures) ∙ length-put _ _ _ _ ∙ l .inv .1,
-      rw add-one
-          (put .combine-pixel .ensures
-          ∙ straight-more (a .bytes) (raster (8 * a .bytes) (a .code)) (λ k. getPixel (a .bytes) (a .source .now) (k * a .bytes)) (l .i) _ (l .line) _
-          (l .inv .2) (fetched .get-pixel .ensures)),
-    )
-
-same-length : tie.Need-same-length Inv-loop μ-loop
+same-length : tie.Need-same-length
 same-length c = search needs
 
-returns : tie.Need-returns Inv-loop μ-loop
-returns c = straight-end _ _ _ _ _ _ _ (c .before .loop .inv .2) (omega arith)
+returns : tie.Need-returns
+returns c =
+    let copy = c .before .before in
+    let told = copy .before .before in
+    let known = told .before .before in
+    let a = known .before .before .args in
+    copy .copy-bytes .ensures
+    ∙ sym (straight-copied (a .source .now) (λ k. (known .shared-slice-known .given k) .fits) (a .bytes) (a .width) (a .line .now))
+    ∙ ap (mixedLine (a .bytes) (a .width) (a .source .now) (a .line .now)) (sym (told .enum-told .given .1))
+
+same-length-2 : tie.Need-same-length-2
+same-length-2 c = search needs
+
+returns-2 : tie.Need-returns-2
+returns-2 c =
+    let drawn = c .before .before in
+    let one = drawn .before .before in
+    let told = one .before .before in
+    let a = told .before .before .before .before .args in
+    drawn .raster-pixels .ensures ∙ (λ t. mixedLine (sym (one .if1 .taken) t) (a .width) (a .source .now) (a .line .now) (sym (told .mix .given .1) t))
+
+same-length-3 : tie.Need-same-length-3
+same-length-3 c = search needs
+
+returns-3 : tie.Need-returns-3
+returns-3 c =
+    let drawn = c .before .before in
+    let two = drawn .before .before in
+    let told = two .before .before in
+    let a = told .before .before .before .before .args in
+    let wide : 2 ≡ a .bytes = omega arith in
+    drawn .raster-pixels2 .ensures ∙ (λ t. mixedLine (wide t) (a .width) (a .source .now) (a .line .now) (sym (told .mix .given .1) t))
 
 pub combine-pixels-spec : {M : Type 1} → statement M
 combine-pixels-spec =
     tie.close
     (tie.spec
-    Inv-loop
-    μ-loop
-    loop-holds
-    mul-get-pixel
-    get-pixel-requires
-    mul-combine-pixel
-    combine-pixel-requires
-    add-i
-    loop-less
-    loop-again
+    enum-told
+    mul-copy-bytes
+    copy-bytes-requires
+    enum-known-mix
+    raster-pixels-requires
+    raster-pixels-requires-2
     same-length
-    returns)
+    returns
+    same-length-2
+    returns-2
+    same-length-3
+    returns-3)

@@ -1,7 +1,11 @@
+use mathlib.Core.Path.{sym, _∙_}
 use Rattle.blit.proofs.Straight.{copy-work}
 use borrow.Author.Needs.{needs}
 use Rattle.blit_line.proofs.line_worker.Statement.{statement}
 use Rattle.blit_line.proofs.line_worker.Tie as tie
+
+is-copy-requires : tie.Need-is-copy-requires
+is-copy-requires c κs = search needs
 
 mul-copy-bytes : tie.Need-mul-copy-bytes
 mul-copy-bytes c = search needs
@@ -15,10 +19,12 @@ same-length c = search needs
 returns : tie.Need-returns
 returns c =
     let copy = c .before .before in
-    let known = copy .before .before .before .before in
+    let asked = copy .before .before .before .before in
+    let known = asked .before in
     let a = known .before .before .args in
-    copy-work (a .bytes) (a .width) (a .code) (a .source .now) (a .down) (a .lag) (a .line .now) _
-    (λ k. (known .shared-slice-known .given k) .fits) (copy .before .before .before .if1 .taken) (copy .before .before .if2 .taken) (copy .copy-bytes .ensures)
+    copy-work (a .bytes) (a .width) (a .mix) (a .source .now) (a .down) (a .lag) (a .line .now) _
+    (λ k. (known .shared-slice-known .given k) .fits) (sym (asked .is-copy .ensures) ∙ copy .before .before .before .if1 .taken)
+    (copy .before .before .if2 .taken) (copy .copy-bytes .ensures)
 
 pixel-worker-requires : tie.Need-pixel-worker-requires
 pixel-worker-requires c κs = search needs
@@ -33,6 +39,7 @@ pub line-worker-spec : {M : Type 1} → statement M
 line-worker-spec =
     tie.close
     (tie.spec
+    is-copy-requires
     mul-copy-bytes
     copy-bytes-requires
     same-length

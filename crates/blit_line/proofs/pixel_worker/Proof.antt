@@ -1,5 +1,3 @@
-use mathlib.Core.Path.{_≡_, ap}
-use Prim.Native.Nat.{ℕ, _*_}
 use native.Mathlib.Omega.{arith}
 use Rattle.blit.proofs.Straight.{combine-work}
 use borrow.Author.Needs.{needs}
@@ -16,13 +14,7 @@ returns : tie.Need-returns
 returns c = search needs
 
 combine-pixels-requires : tie.Need-combine-pixels-requires
-combine-pixels-requires c κs = let a = c .before .before .before .before .before .args in omega (arith, ap (λ (k : ℕ). a .width * k) (c .before .if2 .taken))
-
-combine-pixels-requires-2 : tie.Need-combine-pixels-requires-2
-combine-pixels-requires-2 c κs =
-    let a = c .before .before .before .before .before .args in
-    let two : a .bytes ≡ 2 = omega arith in
-    omega (arith, ap (λ (k : ℕ). a .width * k) two)
+combine-pixels-requires c κs = search needs
 
 same-length-2 : tie.Need-same-length-2
 same-length-2 c = search needs
@@ -30,20 +22,8 @@ same-length-2 c = search needs
 returns-2 : tie.Need-returns-2
 returns-2 c =
     let combined = c .before .before in
-    let one = combined .before .before in
-    let a = one .before .before .before .before .args in
-    combine-work (a .bytes) 1 (a .width) (a .code) (a .source .now) (a .down) (a .lag) (a .line .now) _
-    (one .if2 .taken) (omega arith) (combined .combine-pixels .ensures)
-
-same-length-3 : tie.Need-same-length-3
-same-length-3 c = search needs
-
-returns-3 : tie.Need-returns-3
-returns-3 c =
-    let combined = c .before .before in
-    let a = combined .before .before .before .before .before .before .args in
-    combine-work (a .bytes) 2 (a .width) (a .code) (a .source .now) (a .down) (a .lag) (a .line .now) _
-    (omega arith) (omega arith) (combined .combine-pixels2 .ensures)
+    let a = combined .before .before .before .before .before .args in
+    combine-work (a .bytes) (a .width) (a .mix) (a .source .now) (a .down) (a .lag) (a .line .now) _ (omega arith) (combined .combine-pixels .ensures)
 
 pub pixel-worker-spec : {M : Type 1} → statement M
 pixel-worker-spec =
@@ -53,8 +33,5 @@ pixel-worker-spec =
     same-length
     returns
     combine-pixels-requires
-    combine-pixels-requires-2
     same-length-2
-    returns-2
-    same-length-3
-    returns-3)
+    returns-2)

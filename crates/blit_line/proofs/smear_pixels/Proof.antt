@@ -12,10 +12,10 @@ use Rattle.blit_line.proofs.smear_pixels.Statement.{statement}
 use Rattle.blit_line.proofs.smear_pixels.Tie as tie
 
 abbrev Inv-loop : tie.InvT-loop
-Inv-loop line₀ down bytes width code source lag n₀ line n = (n ≤ width) × (length line ≡ width * bytes) × (line ≡ workLine down bytes width code source lag n line₀)
+Inv-loop line₀ down bytes width mix source lag n₀ line n = (n ≤ width) × (length line ≡ width * bytes) × (line ≡ workLine down bytes width mix source lag n line₀)
 
 abbrev μ-loop : tie.MeasureT-loop
-μ-loop line₀ down bytes width code source lag n₀ line n = width - n
+μ-loop line₀ down bytes width mix source lag n₀ line n = width - n
 
 loop-holds : tie.Need-loop-holds Inv-loop μ-loop
 loop-holds c = (omega arith, omega arith, work-none _ _ _ _ _ _ _)
@@ -55,7 +55,7 @@ loop-again c =
       ap length (put .combine-pixel .ensures) ∙ length-put _ _ _ _ ∙ l .inv .1,
       rw add-one
           (put .combine-pixel .ensures
-          ∙ work-more (a .down) (a .bytes) (a .width) (a .code) (a .source .now) (a .lag) (l .n) _ (l .line) _ _
+          ∙ work-more (a .down) (a .bytes) (a .width) (a .mix) (a .source .now) (a .lag) (l .n) _ (l .line) _ _
           (l .inv .2) (ranked .rank-of .ensures .0) (fetched .lagged-pixel .ensures)),
     )
 

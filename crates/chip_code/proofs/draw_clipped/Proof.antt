@@ -8,8 +8,8 @@ use Rattle.chip_code.proofs.draw_clipped.Tie as tie
 byte-at-requires : tie.Need-byte-at-requires
 byte-at-requires c κs = search needs
 
-combine-requires : tie.Need-combine-requires
-combine-requires c κs = search needs
+mixed-pixel-requires : tie.Need-mixed-pixel-requires
+mixed-pixel-requires c κs = search needs
 
 cast-store-byte : tie.Need-cast-store-byte
 cast-store-byte c = search needs
@@ -21,7 +21,13 @@ same-length : tie.Need-same-length
 same-length c = search needs
 
 returns : tie.Need-returns
-returns c = c .before .before .store-byte .ensures ∙ drawn-one (c .before .before .before .before .before .before .before .before .before .args .bytes) (c .before .before .before .before .before .before .before .before .before .args .at) (c .before .before .before .before .before .before .before .before .before .args .code) (c .before .before .before .before .before .before .before .before .before .args .pixel) (c .before .before .before .before .before .before .byte-at .result) (c .before .before .before .before .combine .result) (c .before .before .before .before .before .before .before .before .before .args .memory .now) (c .before .before .before .before .before .if1 .taken) (c .before .before .before .before .before .before .byte-at .ensures .0) (c .before .before .before .before .combine .ensures)
+returns c =
+    let stored = c .before .before in
+    let mixed = stored .before .before in
+    let low = mixed .before .before in
+    let a = low .before .before .before .args in
+    stored .store-byte .ensures
+    ∙ drawn-one (a .bytes) (a .at) (a .mix) (a .pixel) _ (a .memory .now) _ (mixed .before .if1 .taken) (low .byte-at .ensures .0) (mixed .mixed-pixel .ensures)
 
 add-byte-at : tie.Need-add-byte-at
 add-byte-at c = search needs
@@ -29,14 +35,14 @@ add-byte-at c = search needs
 byte-at-requires-2 : tie.Need-byte-at-requires-2
 byte-at-requires-2 c κs = search needs
 
-mul-combine : tie.Need-mul-combine
-mul-combine c = search needs
+mul-mixed-pixel : tie.Need-mul-mixed-pixel
+mul-mixed-pixel c = search needs
 
-add-combine : tie.Need-add-combine
-add-combine c = search needs
+add-mixed-pixel : tie.Need-add-mixed-pixel
+add-mixed-pixel c = search needs
 
-combine-requires-2 : tie.Need-combine-requires-2
-combine-requires-2 c κs = search needs
+mixed-pixel-requires-2 : tie.Need-mixed-pixel-requires-2
+mixed-pixel-requires-2 c κs = search needs
 
 cast-store-byte-2 : tie.Need-cast-store-byte-2
 cast-store-byte-2 c = search needs
@@ -57,23 +63,32 @@ same-length-2 : tie.Need-same-length-2
 same-length-2 c = search needs
 
 returns-2 : tie.Need-returns-2
-returns-2 c = c .before .before .store-byte3 .ensures ∙ drawn-two (c .before .before .before .before .before .before .before .before .before .before .before .before .before .before .before .args .bytes) (c .before .before .before .before .before .before .before .before .before .before .before .before .before .before .before .args .at) (c .before .before .before .before .before .before .before .before .before .before .before .before .before .before .before .args .code) (c .before .before .before .before .before .before .before .before .before .before .before .before .before .before .before .args .pixel) (c .before .before .before .before .before .before .before .before .before .before .before .before .byte-at .result) (c .before .before .before .before .before .before .before .before .before .byte-at2 .result) (c .before .before .before .before .before .before .before .before .combine2 .result) (c .before .before .before .before .before .before .before .before .before .before .before .before .before .before .before .args .memory .now) _ (omega arith) (c .before .before .before .before .before .before .before .before .before .before .before .before .byte-at .ensures .0) (c .before .before .before .before .before .before .before .before .before .byte-at2 .ensures .0) (c .before .before .before .before .before .before .before .before .combine2 .ensures) (c .before .before .before .before .before .before .store-byte2 .ensures)
+returns-2 c =
+    let stored = c .before .before in
+    let first = stored .before .before .before .before in
+    let mixed = first .before .before in
+    let high = mixed .before in
+    let low = high .before .before .before in
+    let a = low .before .before .before .args in
+    stored .store-byte3 .ensures
+    ∙ drawn-two (a .bytes) (a .at) (a .mix) (a .pixel) _ (a .memory .now) _ _ _ (omega arith) (low .byte-at .ensures .0) (high .byte-at2 .ensures .0)
+    (mixed .mixed-pixel2 .ensures) (first .store-byte2 .ensures)
 
 pub draw-clipped-spec : {M : Type 1} → statement M
 draw-clipped-spec =
     tie.close
     (tie.spec
     byte-at-requires
-    combine-requires
+    mixed-pixel-requires
     cast-store-byte
     store-byte-requires
     same-length
     returns
     add-byte-at
     byte-at-requires-2
-    mul-combine
-    add-combine
-    combine-requires-2
+    mul-mixed-pixel
+    add-mixed-pixel
+    mixed-pixel-requires-2
     cast-store-byte-2
     store-byte-requires-2
     add-store-byte

@@ -1,25 +1,10 @@
-use Rattle.chip_code.specs.Jobs.{jobOf}
+use Rattle.chip.specs.Start.{jobOf}
 use borrow.Author.Needs.{needs}
 use Rattle.chip_code.proofs.job_of.Statement.{statement}
 use Rattle.chip_code.proofs.job_of.Tie as tie
 
 operation-of-requires : tie.Need-operation-of-requires
 operation-of-requires c κs = search needs
-
-raster-code-requires : tie.Need-raster-code-requires
-raster-code-requires c κs = search needs
-
-foreground-of-requires : tie.Need-foreground-of-requires
-foreground-of-requires c κs = search needs
-
-source-of-requires : tie.Need-source-of-requires
-source-of-requires c κs = search needs
-
-choose-mix-requires : tie.Need-choose-mix-requires
-choose-mix-requires c κs = search needs
-
-choose-from-requires : tie.Need-choose-from-requires
-choose-from-requires c κs = search needs
 
 bytes-of-requires : tie.Need-bytes-of-requires
 bytes-of-requires c κs = search needs
@@ -33,26 +18,32 @@ width-of-requires c κs = search needs
 height-of-requires : tie.Need-height-of-requires
 height-of-requires c κs = search needs
 
+mix-by-requires : tie.Need-mix-by-requires
+mix-by-requires c κs = search needs
+
+from-by-requires : tie.Need-from-by-requires
+from-by-requires c κs = search needs
+
 destination-of-requires : tie.Need-destination-of-requires
 destination-of-requires c κs = search needs
 
 returns : tie.Need-returns
 unfolding jobOf
-returns c = simp (c .destination-of .ensures, c .before .height-of .ensures, c .before .before .width-of .ensures, c .before .before .before .line-of .ensures, c .before .before .before .before .bytes-of .ensures, c .before .before .before .before .before .choose-from .ensures, c .before .before .before .before .before .before .choose-mix .ensures, c .before .before .before .before .before .before .before .source-of .ensures, c .before .before .before .before .before .before .before .before .foreground-of .ensures, c .before .before .before .before .before .before .before .before .before .raster-code .ensures, c .before .before .before .before .before .before .before .before .before .before .operation-of .ensures)
+returns c =
+    let size = c .before .before .before in
+    let shape = size .before .before in
+    simp (c .destination-of .ensures, c .before .from-by .ensures, c .before .before .mix-by .ensures, size .height-of .ensures, size .before .width-of .ensures, shape .line-of .ensures, shape .before .bytes-of .ensures, shape .before .before .operation-of .ensures)
 
 pub job-of-spec : {M : Type 1} → statement M
 job-of-spec =
     tie.close
     (tie.spec
     operation-of-requires
-    raster-code-requires
-    foreground-of-requires
-    source-of-requires
-    choose-mix-requires
-    choose-from-requires
     bytes-of-requires
     line-of-requires
     width-of-requires
     height-of-requires
+    mix-by-requires
+    from-by-requires
     destination-of-requires
     returns)

@@ -2,9 +2,8 @@
 use Rattle.chip.specs.Start.{operation}
 use mathlib.Core.Path.{sym, ap, _∙_, _≡_}
 use native.Mathlib.Omega.{arith}
-use Rattle.blit.specs.Blit.{chipBlit, towards}
-use Rattle.blit_code.specs.Job.{blitOf}
-use Rattle.blit_code.specs.declared.Job.{Job}
+use Rattle.blit.specs.Job.{performed}
+use Rattle.blit.specs.declared.Job.{Job}
 use Rattle.chip_code.proofs.Started.{job-limits, job-started}
 use Rattle.chip.proofs.Admits.{not-started}
 use borrow.Author.Needs.{needs}
@@ -24,8 +23,7 @@ perform-requires : tie.Need-perform-requires
 perform-requires c κs =
     let a = c .before .before .before .before .before .args in
     let p = c .before .before .before .before .before .pre in
-    let some : operation (a .b) ≡ 0 → ⊥ = λ e. c .before .before .if1 .left (c .before .before .before .operation-of .ensures ∙ e) in
-    rw (c .before .job-of .ensures, p .2) (job-limits (a .b) (p .0) some 262144 (omega arith) (p .1))
+    rw (c .before .job-of .ensures, p .2) (job-limits 262144 (a .b) (p .0) (p .1) (omega arith))
 
 same-length : tie.Need-same-length
 same-length c = search needs
@@ -34,7 +32,7 @@ returns-2 : tie.Need-returns-2
 returns-2 c =
     let a = c .before .before .before .before .before .before .before .before .args in
     let some : operation (a .b) ≡ 0 → ⊥ = λ e. c .before .before .before .before .before .if1 .left (c .before .before .before .before .before .before .operation-of .ensures ∙ e) in
-    c .before .before .perform .ensures ∙ ap (λ (j : Job). chipBlit (blitOf j) (towards (j .down)) (a .memory .now)) (c .before .before .before .before .job-of .ensures)
+    c .before .before .perform .ensures ∙ ap (λ (j : Job). performed j (a .memory .now)) (c .before .before .before .before .job-of .ensures)
     ∙ job-started (a .b) (c .before .before .before .before .before .before .before .before .pre .0) some (a .memory .now)
 
 pub start-spec : {M : Type 1} → statement M

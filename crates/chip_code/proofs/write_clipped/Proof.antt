@@ -9,13 +9,13 @@ use Rattle.chip_code.proofs.write_clipped.Statement.{statement}
 use Rattle.chip_code.proofs.write_clipped.Tie as tie
 
 abbrev Inv-loop : tie.InvT-loop
-Inv-loop bytes code at count word memory₀ i₀ memory i = (i ≤ count) × (memory ≡ wordPixels bytes code at word i memory₀) × (length memory ≡ length memory₀)
+Inv-loop bytes mix at count word memory₀ i₀ memory i = (i ≤ count) × (memory ≡ wordPixels bytes mix at word i memory₀) × (length memory ≡ length memory₀)
 
 abbrev μ-loop : tie.MeasureT-loop
-μ-loop bytes code at count word memory₀ i₀ memory i = count - i
+μ-loop bytes mix at count word memory₀ i₀ memory i = count - i
 
 loop-holds : tie.Need-loop-holds Inv-loop μ-loop
-loop-holds c = (omega arith, none-drawn (c .before .args .bytes) (c .before .args .code) (c .before .args .at) (c .before .args .word) (c .before .args .memory .now), refl)
+loop-holds c = (omega arith, none-drawn (c .before .args .bytes) (c .before .args .mix) (c .before .args .at) (c .before .args .word) (c .before .args .memory .now), refl)
 
 word-pixel-requires : tie.Need-word-pixel-requires Inv-loop μ-loop
 word-pixel-requires c κs = (c .before .before .before .pre .0, c .before .before .before .pre .1, omega arith)
@@ -40,7 +40,7 @@ loop-less : tie.Need-loop-less Inv-loop μ-loop
 loop-less c = omega arith
 
 loop-again : tie.Need-loop-again Inv-loop μ-loop
-loop-again c = (omega arith, c .before .before .draw-clipped .ensures ∙ one-more (c .before .before .before .before .before .before .before .before .args .bytes) (c .before .before .before .before .before .before .before .before .args .code) (c .before .before .before .before .before .before .before .before .args .at) (c .before .before .before .before .before .before .before .before .args .word) (c .before .before .before .before .before .before .loop .i) (c .before .before .before .before .word-pixel .result) (c .before .before .before .before .before .before .before .before .args .memory .now) (c .before .before .before .before .before .before .loop .memory) (c .before .before .before .before .before .before .loop .inv .1) (c .before .before .before .before .word-pixel .ensures), c .before .before .draw-clipped .kept .1 .1 .1 .1 .0 ∙ c .before .before .before .before .before .before .loop .inv .2)
+loop-again c = (omega arith, c .before .before .draw-clipped .ensures ∙ one-more (c .before .before .before .before .before .before .before .before .args .bytes) (c .before .before .before .before .before .before .before .before .args .mix) (c .before .before .before .before .before .before .before .before .args .at) (c .before .before .before .before .before .before .before .before .args .word) (c .before .before .before .before .before .before .loop .i) (c .before .before .before .before .word-pixel .result) (c .before .before .before .before .before .before .before .before .args .memory .now) (c .before .before .before .before .before .before .loop .memory) (c .before .before .before .before .before .before .loop .inv .1) (c .before .before .before .before .word-pixel .ensures), c .before .before .draw-clipped .kept .1 .1 .1 .1 .0 ∙ c .before .before .before .before .before .before .loop .inv .2)
 
 same-length : tie.Need-same-length Inv-loop μ-loop
 same-length c = c .before .loop .inv .2
@@ -48,7 +48,7 @@ same-length c = c .before .loop .inv .2
 returns : tie.Need-returns Inv-loop μ-loop
 returns c =
     let e : c .before .loop .i ≡ c .before .before .before .args .count = omega arith in
-    c .before .loop .inv .1 ∙ ap (λ (k : ℕ). wordPixels (c .before .before .before .args .bytes) (c .before .before .before .args .code) (c .before .before .before .args .at) (c .before .before .before .args .word) k (c .before .before .before .args .memory .now)) e
+    c .before .loop .inv .1 ∙ ap (λ (k : ℕ). wordPixels (c .before .before .before .args .bytes) (c .before .before .before .args .mix) (c .before .before .before .args .at) (c .before .before .before .args .word) k (c .before .before .before .args .memory .now)) e
 
 pub write-clipped-spec : {M : Type 1} → statement M
 write-clipped-spec =

@@ -1,10 +1,11 @@
 -- The products fit for every chip, and the pixels drawn are those of `chipWord`.
-use mathlib.Core.Path.{_≡_, refl, _∙_}
+use mathlib.Core.Path.{_≡_, refl, ap, _∙_}
 use native.Mathlib.Nat.{div-le-self, mul-le-mul}
 use native.Mathlib.Omega.{arith}
 use mathlib.Core.List.{List}
 use Prim.Native.Nat.{_%_, _-_, min, ℕ, _+_, _*_, _/_, _≤_, _<_}
 use Rattle.blit.specs.Words.{chipWord}
+use Rattle.blit.specs.declared.Mix.the-variants.{Raster}
 use Rattle.chip.specs.Start.{bytesOf, writeOf}
 use Rattle.chip_code.proofs.Clipped.{wordPixels, word-written}
 use borrow.Author.Needs.{needs}
@@ -35,14 +36,14 @@ count-bound c = mul-le-mul {n₂ = 2} {m₂ = 2} (omega (arith, div-le-self 2 (c
 
 -- the pixels that are drawn are the word's
 written : (c : tie.After-raster-code) (m : List ℕ)
-    → wordPixels (c .before .before .before .before .before .before .before .before .bytes-of .result) (c .raster-code .result)
+    → wordPixels (c .before .before .before .before .before .before .before .before .bytes-of .result) (Raster (c .raster-code .result))
     (c .before .before .before .destination-of .result + (c .before .before .before .before .before .before .before .before .before .before .args .d .line * c .before .line-of .result + c .before .before .before .before .before .before .before .before .before .before .args .d .word * (2 / c .before .before .before .before .before .before .before .before .bytes-of .result) * c .before .before .before .before .before .before .before .before .bytes-of .result))
     (c .before .before .before .before .before .before .before .before .before .before .args .value % 65536) (c .before .before .before .before .least .result) m
     ≡ chipWord (writeOf (c .before .before .before .before .before .before .before .before .before .before .args .b) (λ i j. 0)) (c .before .before .before .before .before .before .before .before .before .before .args .d .line) (c .before .before .before .before .before .before .before .before .before .before .args .d .word) (c .before .before .before .before .before .before .before .before .before .before .args .value) m
 written c m =
     let a = c .before .before .before .before .before .before .before .before .before .before .args in
     let n = c .before .before .before .before .before .before .before .before .bytes-of .ensures in
-    word-written (a .b) (a .d .line) (a .d .word) _ _ _ _ _ (a .value) m n (c .raster-code .ensures)
+    word-written (a .b) (a .d .line) (a .d .word) _ _ _ _ _ (a .value) m n (ap Raster (c .raster-code .ensures))
     (λ t. c .before .before .before .destination-of .ensures t + (a .d .line * c .before .line-of .ensures t + a .d .word * (2 / n t) * n t))
     (c .before .before .before .before .least .ensures ∙ (λ t. min (2 / n t) (c .before .before .before .before .before .minus .ensures t)) ∙ (λ t. min (2 / bytesOf (a .b)) (c .before .before .before .before .before .before .width-of .ensures t - a .d .word * (2 / n t))))
     refl

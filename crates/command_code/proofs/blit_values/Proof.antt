@@ -1,5 +1,5 @@
 use borrow.Author.Needs.{needs}
-use Rattle.command.specs.Values.{blitValues}
+use Rattle.command.proofs.Values.{values-are}
 use Rattle.command_code.proofs.blit_values.Statement.{statement}
 use Rattle.command_code.proofs.blit_values.Tie as tie
 
@@ -30,15 +30,14 @@ less-one-requires-2 c κs = search needs
 cast-height : tie.Need-cast-height
 cast-height c = search needs
 
+colour-value-requires : tie.Need-colour-value-requires
+colour-value-requires c κs = search needs
+
 control-value-requires : tie.Need-control-value-requires
 control-value-requires c κs = search needs
 
-cast-t11 : tie.Need-cast-t11
-cast-t11 c = search needs
-
 returns : tie.Need-returns
-unfolding blitValues
-returns c = cc
+returns c = rw values-are (cc)
 
 pub blit-values-spec : {M : Type 1} → statement M
 blit-values-spec =
@@ -53,6 +52,6 @@ blit-values-spec =
     cast-width
     less-one-requires-2
     cast-height
+    colour-value-requires
     control-value-requires
-    cast-t11
     returns)

@@ -23,7 +23,7 @@ add-result-2 c = search needs
 
 returns-2 : tie.Need-returns-2
 unfolding commandValue
-returns-2 c = simp (ne-eqb _ _ (c .before .before .if1 .left), eq-eqb _ _ (c .if2 .taken))
+returns-2 c = simp (ne-eqb _ _ (c .before .before .if1 .left), ne-eqb _ _ (c .if2 .taken))
 
 is-negative-requires : tie.Need-is-negative-requires
 is-negative-requires c κs = search needs
@@ -33,14 +33,14 @@ add-result-3 c = search needs
 
 returns-3 : tie.Need-returns-3
 unfolding commandValue
-returns-3 c = simp (ne-eqb _ _ (c .before .before .before .before .if1 .left), ne-eqb _ _ (c .before .before .if2 .left), tested (c .before .is-negative .ensures) (c .if3 .taken))
+returns-3 c = simp (ne-eqb _ _ (c .before .before .before .before .if1 .left), eq-eqb _ _ (c .before .before .if2 .left), tested (c .before .is-negative .ensures) (c .if3 .taken))
 
 add-result-4 : tie.Need-add-result-4
 add-result-4 c = search needs
 
 returns-4 : tie.Need-returns-4
 unfolding commandValue
-returns-4 c = simp (ne-eqb _ _ (c .before .before .before .before .if1 .left), ne-eqb _ _ (c .before .before .if2 .left), tested (c .before .is-negative .ensures) (c .if3 .left))
+returns-4 c = simp (ne-eqb _ _ (c .before .before .before .before .if1 .left), eq-eqb _ _ (c .before .before .if2 .left), tested (c .before .is-negative .ensures) (c .if3 .left))
 
 pub command-value-spec : {M : Type 1} → statement M
 command-value-spec =

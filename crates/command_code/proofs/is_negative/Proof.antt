@@ -1,5 +1,6 @@
 use borrow.Author.Needs.{needs}
-use Rattle.command.specs.Values.{isNegative, sourceOf, destinationOf}
+use Rattle.command.specs.Values.{sourceOf, destinationOf}
+use Rattle.command.proofs.Values.{negative-is}
 use Rattle.command_code.proofs.is_negative.Statement.{statement}
 use Rattle.command_code.proofs.is_negative.Tie as tie
 
@@ -25,8 +26,9 @@ address-of-requires-2 : tie.Need-address-of-requires-2
 address-of-requires-2 c κs = search needs
 
 returns : tie.Need-returns
-unfolding isNegative sourceOf destinationOf
-returns c = simp (c .before .before .before .before .before .before .before .surface-of .ensures, c .before .before .before .before .address-of .ensures, c .before .address-of2 .ensures)
+unfolding sourceOf destinationOf
+returns c = rw negative-is
+    (simp (c .before .before .before .before .before .before .before .surface-of .ensures, c .before .before .before .before .address-of .ensures, c .before .address-of2 .ensures))
 
 pub is-negative-spec : {M : Type 1} → statement M
 is-negative-spec =

@@ -1,14 +1,11 @@
-use mathlib.Core.Path.{refl}
-use borrow.Author.Tests.{eq-eqb, ne-eqb}
+use mathlib.Core.Path.{sym}
 use borrow.Author.Needs.{needs}
-use Rattle.record.proofs.Choice.{no}
-use Rattle.command.specs.Values.{sourceValue}
+use Rattle.command.proofs.Values.{source-none, source-moved}
 use Rattle.command_code.proofs.source_value.Statement.{statement}
 use Rattle.command_code.proofs.source_value.Tie as tie
 
 returns : tie.Need-returns
-unfolding sourceValue
-returns c = no _ (ne-eqb _ _ (c .if1 .taken)) refl
+returns c = sym (source-none _ _ (c .if1 .taken))
 
 surface-of-requires : tie.Need-surface-of-requires
 surface-of-requires c κs = search needs
@@ -35,8 +32,10 @@ address-of-requires : tie.Need-address-of-requires
 address-of-requires c κs = search needs
 
 returns-2 : tie.Need-returns-2
-unfolding sourceValue
-returns-2 c = simp (eq-eqb _ _ (c .before .before .before .before .before .before .if1 .left), c .address-of .ensures, c .before .before .before .before .before .surface-of .ensures, c .before .before .before .last-column .ensures .0, c .before .last-line .ensures .0)
+returns-2 c =
+    let a = c .before .before .before .before .before .before .before .before .args in
+    rw (source-moved (a .s) (a .c) (c .before .before .before .before .before .before .if1 .left))
+    (simp (c .address-of .ensures, c .before .before .before .before .before .surface-of .ensures, c .before .before .before .last-column .ensures .0, c .before .last-line .ensures .0))
 
 pub source-value-spec : {M : Type 1} → statement M
 source-value-spec =

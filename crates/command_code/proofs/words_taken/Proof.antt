@@ -1,18 +1,17 @@
 use Prim.Native.Nat.{ℕ, _*_}
-use mathlib.Core.Path.{refl, ap}
+use mathlib.Core.Path.{sym, ap, _∙_}
 use native.Mathlib.Omega.{arith}
 use native.Mathlib.Nat.{lt-of-le-of-lt, mul-le-mul}
 use lib.Dec.{lit<}
-use borrow.Author.Tests.{eq-eqb, ne-eqb}
 use borrow.Author.Needs.{needs}
-use Rattle.record.proofs.Choice.{yes, no}
 use Rattle.command.specs.Command.{wordsTaken}
+use Rattle.command.proofs.Operation.{by-other, not-write}
 use Rattle.command_code.proofs.words_taken.Statement.{statement}
 use Rattle.command_code.proofs.words_taken.Tie as tie
 
 returns : tie.Need-returns
 unfolding wordsTaken
-returns c = no _ (ne-eqb _ _ (c .if1 .taken)) refl
+returns c = sym (not-write _ _ _ (c .if1 .taken))
 
 line-words-requires : tie.Need-line-words-requires
 line-words-requires c κs = search needs
@@ -25,7 +24,9 @@ mul-result c = record { fits = lt-of-le-of-lt (mul-le-mul {n₂ = 65535} {m₂ =
 
 returns-2 : tie.Need-returns-2
 unfolding wordsTaken
-returns-2 c = yes _ (eq-eqb _ _ (c .before .before .if1 .left)) (ap (λ (n : ℕ). n * c .before .before .before .before .args .c .height) (c .before .line-words .ensures .0))
+returns-2 c =
+    ap (λ (n : ℕ). n * c .before .before .before .before .args .c .height) (c .before .line-words .ensures .0)
+    ∙ sym (by-other (c .before .before .before .before .args .c .operation) _ _ _ (λ z. omega (arith, c .before .before .if1 .left)) (λ z. omega (arith, c .before .before .if1 .left)))
 
 pub words-taken-spec : {M : Type 1} → statement M
 words-taken-spec =

@@ -37,10 +37,10 @@ array-read-n : tie.Need-array-read-n
 array-read-n c = search needs
 
 array-share-prefix-stream : tie.Need-array-share-prefix-stream
-array-share-prefix-stream c = omega (arith, length-fits _ _ _ _ _ _ (c .before .before .compile .ensures .1 .0) (c .if1 .left))
+array-share-prefix-stream c = omega (arith, length-fits _ _ _ _ (c .before .before .compile .ensures .1 .0) (c .if1 .left))
 
 slice-aggregate-print-stream : tie.Need-slice-aggregate-print-stream
-slice-aggregate-print-stream c = sym (length-take-le _ _ (omega (arith, length-fits _ _ _ _ _ _ (c .before .before .before .compile .ensures .1 .0) (c .before .if1 .left))))
+slice-aggregate-print-stream c = sym (length-take-le _ _ (omega (arith, length-fits _ _ _ _ (c .before .before .before .compile .ensures .1 .0) (c .before .if1 .left))))
 
 print-stream-requires : tie.Need-print-stream-requires
 print-stream-requires c κs = search needs

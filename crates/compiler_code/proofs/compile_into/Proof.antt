@@ -5,7 +5,9 @@ use lib.ListN.{length}
 use borrow.Author.Needs.{needs}
 use Rattle.screen.specs.Screen.{screenOf, memorySize}
 use Rattle.screen.specs.declared.ScreenAnswer.the-variants.{Accepted}
-use Rattle.compiler.proofs.Outcome.{list-says, told-screen, told-list, told-command, told-left, told-short, told-stream, second-asks}
+use Rattle.command.specs.Task.{task}
+use Rattle.command.proofs.Task.{list-says}
+use Rattle.compiler.proofs.Outcome.{told-screen, told-list, told-command, told-left, told-short, told-stream, second-asks}
 use Rattle.compiler_code.proofs.compile_into.Statement.{statement}
 use Rattle.compiler_code.proofs.compile_into.Tie as tie
 
@@ -27,7 +29,7 @@ screen-is : (c : tie.After-known-told2) → screenOf memorySize (c .before .befo
 screen-is c = sym (c .before .before .before .read-screen .ensures .0) ∙ c .before .answer2 .given .1
 
 few : (c : tie.Else1) → length (c .before .before .before .before .before .before .before .before .before .before .args .list .now) ≤ 2048
-few c = list-says _ _ (sym (c .before .list-fault .ensures) ∙ c .if1 .left) .1
+few c = list-says _ _ _ (sym (c .before .list-fault .ensures) ∙ c .if1 .left) .1
 
 read-screen-requires : tie.Need-read-screen-requires
 read-screen-requires c κs = search needs
@@ -36,7 +38,7 @@ enum-known-answer : tie.Need-enum-known-answer
 enum-known-answer c = search needs
 
 returns : tie.Need-returns
-returns c = told-screen _ _ _ _ _ _ (sym (c .before .before .before .read-screen .ensures .0) ∙ c .before .answer .given .1)
+returns c = told-screen _ _ _ _ (sym (c .before .before .before .read-screen .ensures .0) ∙ c .before .answer .given .1)
 
 enum-known-answer-2 : tie.Need-enum-known-answer-2
 enum-known-answer-2 c = search needs
@@ -45,7 +47,7 @@ list-fault-requires : tie.Need-list-fault-requires
 list-fault-requires c κs = search needs
 
 returns-2 : tie.Need-returns-2
-returns-2 c = told-list _ _ _ _ _ _ (screen-is (c .before .before)) _ (c .before .list-fault .ensures) (c .if1 .taken)
+returns-2 c = told-list _ _ _ _ (screen-is (c .before .before)) _ (c .before .list-fault .ensures) (c .if1 .taken)
 
 first-pass-requires : tie.Need-first-pass-requires
 first-pass-requires c κs = few c
@@ -54,14 +56,14 @@ returns-3 : tie.Need-returns-3
 returns-3 c =
     let l = c .before .before .before in
     let p = c .before .before .first-pass in
-    told-command _ _ _ _ _ _ (screen-is (whole l)) _ (l .before .list-fault .ensures) (p .result) (p .ensures .0) (l .if1 .left) (c .if2 .taken)
+    told-command _ _ _ _ (screen-is (whole l)) _ (l .before .list-fault .ensures) (p .result) (p .ensures .0) (l .if1 .left) (c .if2 .taken)
 
 returns-4 : tie.Need-returns-4
 returns-4 c =
     let f = c .before .before in
     let l = fine f in
     let p = f .before .before .first-pass in
-    told-left _ _ _ _ _ _ (screen-is (whole l)) _ (l .before .list-fault .ensures) (p .result) (p .ensures .0) (l .if1 .left) (f .if2 .left) (c .if3 .taken)
+    told-left _ _ _ _ (screen-is (whole l)) _ (l .before .list-fault .ensures) (p .result) (p .ensures .0) (l .if1 .left) (f .if2 .left) (c .if3 .taken)
 
 mul-size : tie.Need-mul-size
 mul-size c = omega (arith, few (fine (taken c)))
@@ -81,7 +83,7 @@ returns-5 c =
     let f = taken t in
     let l = fine f in
     let p = f .before .before .first-pass in
-    told-short _ _ _ _ _ _ (screen-is (whole l)) _ (l .before .list-fault .ensures) (p .result) (p .ensures .0) (l .if1 .left) (f .if2 .left) (t .if3 .left) (c .if4 .taken)
+    told-short _ _ _ _ (screen-is (whole l)) _ (l .before .list-fault .ensures) (p .result) (p .ensures .0) (l .if1 .left) (f .if2 .left) (t .if3 .left) (c .if4 .taken)
 
 put-screen-requires : tie.Need-put-screen-requires
 put-screen-requires c κs = search needs
@@ -94,7 +96,7 @@ second-pass-requires c κs =
     let l = fine f in
     let p = f .before .before .first-pass in
     let a = whole l .before .before .before .before .before .before .before .before .args in
-    second-asks _ _ (a .list .now) (a .words .now) (a .stream .now) _ (screen-is (whole l)) _ (l .before .list-fault .ensures) (p .result) (p .ensures .0) (l .if1 .left) (f .if2 .left) (t .if3 .left) (r .if4 .left) _ (c .before .before .before .put-screen .ensures)
+    second-asks _ (task (a .screen .now) (a .list .now) (a .words .now)) (a .stream .now) _ (screen-is (whole l)) _ (l .before .list-fault .ensures) (p .result) (p .ensures .0) (l .if1 .left) (f .if2 .left) (t .if3 .left) (r .if4 .left) _ (c .before .before .before .put-screen .ensures)
 
 cast-t23 : tie.Need-cast-t23
 cast-t23 c = search needs
@@ -117,7 +119,7 @@ returns-6 c =
     let f = taken t in
     let l = fine f in
     let p = f .before .before .first-pass in
-    told-stream _ _ _ _ _ _ (screen-is (whole l)) _ (l .before .list-fault .ensures) (p .result) (p .ensures .0) (l .if1 .left) (f .if2 .left) (t .if3 .left) (r .if4 .left) _ _ (q .put-screen .ensures) (s .second-pass .ensures)
+    told-stream _ _ _ _ (screen-is (whole l)) _ (l .before .list-fault .ensures) (p .result) (p .ensures .0) (l .if1 .left) (f .if2 .left) (t .if3 .left) (r .if4 .left) _ _ (q .put-screen .ensures) (s .second-pass .ensures)
 
 pub compile-into-spec : {M : Type 1} → statement M
 compile-into-spec =

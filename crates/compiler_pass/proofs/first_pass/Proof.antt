@@ -5,24 +5,25 @@ use native.Mathlib.Omega.{arith}
 use lib.ListN.{take, drop}
 use borrow.Author.Needs.{needs}
 use Rattle.command.specs.Command.{commandAnswer}
+use Rattle.command.specs.Task.{commandSize}
 use Rattle.compiler.proofs.FirstPass.{Going, partAt, going-start, going-turn, words-fit, pass-refused, pass-done}
 use Rattle.compiler_pass.proofs.first_pass.Statement.{statement}
 use Rattle.compiler_pass.proofs.first_pass.Tie as tie
 
 abbrev Inv-loop : tie.InvT-loop
-Inv-loop s list left count i₀ used₀ i used = Going s list left count i used
+Inv-loop s list left count i₀ used₀ i used = Going s commandSize list left count i used
 
 abbrev μ-loop : tie.MeasureT-loop
 μ-loop s list left count i₀ used₀ i used = count - i
 
 -- the answer is that to command i
-answered : (c : tie.After-read-command Inv-loop μ-loop) → commandAnswer (c .before .before .before .before .before .args .s) (c .before .before .before .before .before .args .left - c .before .before .before .loop .used) (partAt (c .before .before .before .before .before .args .list .now) (c .before .before .before .loop .i)) ≡ c .read-command .result
+answered : (c : tie.After-read-command Inv-loop μ-loop) → commandAnswer (c .before .before .before .before .before .args .s) (c .before .before .before .before .before .args .left - c .before .before .before .loop .used) (partAt commandSize (c .before .before .before .before .before .args .list .now) (c .before .before .before .loop .i)) ≡ c .read-command .result
 answered c =
     ap (λ (n : ℕ). commandAnswer (c .before .before .before .before .before .args .s) (c .before .before .before .before .before .args .left - c .before .before .before .loop .used) (take n (drop (c .before .before .before .loop .i * 32) (c .before .before .before .before .before .args .list .now)))) (sym (add-sub-cancel-left (c .before .before .before .loop .i * 32) 32))
     ∙ sym (c .read-command .ensures .0)
 
 loop-holds : tie.Need-loop-holds Inv-loop μ-loop
-loop-holds c = going-start _ _ _
+loop-holds c = going-start _ _ _ _
 
 mul-at : tie.Need-mul-at Inv-loop μ-loop
 mul-at c = search needs
@@ -51,7 +52,7 @@ enum-known-answer c = search needs
 returns : tie.Need-returns Inv-loop μ-loop
 returns c =
     let l = c .before .before .before .before .before .before .loop in
-    (pass-refused _ _ _ _ (l .i) (l .used) (l .inv) _ (c .before .before .before .before .before .loop-test .taken) (answered (c .before .before .before) ∙ c .before .answer .given .1), omega arith)
+    (pass-refused _ _ _ _ _ (l .i) (l .used) (l .inv) _ (c .before .before .before .before .before .loop-test .taken) (answered (c .before .before .before) ∙ c .before .answer .given .1), omega arith)
 
 enum-known-answer-2 : tie.Need-enum-known-answer-2 Inv-loop μ-loop
 enum-known-answer-2 c = search needs
@@ -65,7 +66,7 @@ cast-used c = search needs
 add-used : tie.Need-add-used Inv-loop μ-loop
 add-used c =
     let l = c .before .before .before .before .before .before .before .loop in
-    omega (arith, c .words-taken .ensures, words-fit _ _ _ _ (l .i) (l .used) (l .inv) _ (answered (c .before .before .before .before) ∙ c .before .before .answer2 .given .1))
+    omega (arith, c .words-taken .ensures, words-fit _ _ _ _ _ (l .i) (l .used) (l .inv) _ (answered (c .before .before .before .before) ∙ c .before .before .answer2 .given .1))
 
 add-i : tie.Need-add-i Inv-loop μ-loop
 add-i c = search needs
@@ -77,12 +78,12 @@ loop-again : tie.Need-loop-again Inv-loop μ-loop
 loop-again c =
     let l = c .before .before .before .before .before .before .before .loop in
     rw (c .words-taken .ensures)
-    (going-turn _ _ _ _ (l .i) (l .used) (l .inv) _ (c .before .before .before .before .before .before .loop-test .taken) (omega (arith, c .words-taken .ensures, c .words-taken .ok)) (answered (c .before .before .before .before) ∙ c .before .before .answer2 .given .1))
+    (going-turn _ _ _ _ _ (l .i) (l .used) (l .inv) _ (c .before .before .before .before .before .before .loop-test .taken) (omega (arith, c .words-taken .ensures, c .words-taken .ok)) (answered (c .before .before .before .before) ∙ c .before .before .answer2 .given .1))
 
 returns-2 : tie.Need-returns-2 Inv-loop μ-loop
 returns-2 c =
     let l = c .before .loop in
-    (pass-done _ _ _ _ (l .i) (l .used) (l .inv) (c .loop-test .left), omega (arith, l .inv .small, l .inv .within, l .inv .count-is, c .before .before .before .pre))
+    (pass-done _ _ _ _ _ (l .i) (l .used) (l .inv) (c .loop-test .left), omega (arith, l .inv .small, l .inv .within, l .inv .count-is, c .before .before .before .pre))
 
 pub first-pass-spec : {M : Type 1} → statement M
 first-pass-spec =

@@ -1,5 +1,5 @@
 use Rattle.record.proofs.Checks.{row-fails, row-passes, rows-end}
-use Rattle.compiler.specs.Compile.{listRows}
+use Rattle.command.specs.Task.{listRows}
 use Rattle.compiler_pass.proofs.list_fault.Statement.{statement}
 use Rattle.compiler_pass.proofs.list_fault.Tie as tie
 

@@ -2,8 +2,9 @@ use mathlib.Core.Path.{_∙_, ap}
 use lib.Seq.{sets}
 use borrow.Author.Needs.{needs}
 use Rattle.record.specs.Record.{streamBytes}
+use Rattle.screen.specs.Values.{sixValues}
 use Rattle.screen.specs.declared.ScreenValues.{ScreenValues}
-use Rattle.compiler.specs.Stream.{recordsWith, screenRegisters, sixValues, screenRecords}
+use Rattle.compiler.specs.Stream.{recordsWith, screenRegisters, screenRecords}
 use Rattle.compiler_pass.proofs.put_screen.Statement.{statement}
 use Rattle.compiler_pass.proofs.put_screen.Tie as tie
 

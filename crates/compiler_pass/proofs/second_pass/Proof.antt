@@ -5,33 +5,34 @@ use native.Mathlib.Omega.{arith}
 use lib.ListN.{length, take, drop}
 use borrow.Author.Needs.{needs}
 use Rattle.command.specs.Command.{commandOf, wordsTaken}
+use Rattle.command.specs.Task.{commandSize}
 use Rattle.compiler.proofs.FirstPass.{partAt}
 use Rattle.compiler.proofs.SecondPass.{Writing, writing-start, writing-step, writing-end, words-there, room-there, part-length}
 use Rattle.compiler_pass.proofs.second_pass.Statement.{statement}
 use Rattle.compiler_pass.proofs.second_pass.Tie as tie
 
 abbrev Inv-loop : tie.InvT-loop
-Inv-loop s list words buffer₀ commands i₀ used₀ at₀ buffer i used at = Writing s list words buffer₀ buffer commands i used at
+Inv-loop s list words buffer₀ commands i₀ used₀ at₀ buffer i used at = Writing s commandSize list words buffer₀ buffer commands i used at
 
 abbrev μ-loop : tie.MeasureT-loop
 μ-loop s list words buffer₀ commands i₀ used₀ at₀ buffer i used at = commands - i
 
 -- the command is that of part i, its words are left, and its records have room
-command-is : (c : tie.After-command-of Inv-loop μ-loop) → c .command-of .result ≡ commandOf (partAt (c .before .before .before .before .before .before .before .args .list .now) (c .before .before .before .loop .i))
+command-is : (c : tie.After-command-of Inv-loop μ-loop) → c .command-of .result ≡ commandOf (partAt commandSize (c .before .before .before .before .before .before .before .args .list .now) (c .before .before .before .loop .i))
 command-is c = c .command-of .ensures ∙ ap (λ (n : ℕ). commandOf (take n (drop (c .before .before .before .loop .i * 32) (c .before .before .before .before .before .before .before .args .list .now)))) (add-sub-cancel-left (c .before .before .before .loop .i * 32) 32)
 
 words-left : (c : tie.After-command-of Inv-loop μ-loop) → c .before .before .before .loop .used + wordsTaken (c .before .before .before .before .before .before .before .args .s) (c .command-of .result) ≤ length (c .before .before .before .before .before .before .before .args .words .now)
-words-left c = let l = c .before .before .before .loop in words-there _ _ _ _ (l .buffer) _ (l .i) (l .used) (l .at) (l .inv) _ (c .before .before .loop-test .taken) (command-is c)
+words-left c = let l = c .before .before .before .loop in words-there _ _ _ _ _ (l .buffer) _ (l .i) (l .used) (l .at) (l .inv) _ (c .before .before .loop-test .taken) (command-is c)
 
 room-left : (c : tie.After-command-of Inv-loop μ-loop) → c .before .before .before .loop .at + 72 + 8 * wordsTaken (c .before .before .before .before .before .before .before .args .s) (c .command-of .result) ≤ length (c .before .before .before .loop .buffer)
-room-left c = let l = c .before .before .before .loop in room-there _ _ _ _ (l .buffer) _ (l .i) (l .used) (l .at) (l .inv) _ (c .before .before .loop-test .taken) (command-is c)
+room-left c = let l = c .before .before .before .loop in room-there _ _ _ _ _ (l .buffer) _ (l .i) (l .used) (l .at) (l .inv) _ (c .before .before .loop-test .taken) (command-is c)
 
 -- where the next command's records start
 next-at : (c : tie.After-slice-known2 Inv-loop μ-loop) → c .before .before .before .before .before .before .before .before .before .loop .at + 72 + 8 * c .before .before .before .before .before .words-taken .result < 2 ^ 64
 next-at c = omega (arith, room-left (c .before .before .before .before .before .before), c .before .before .before .before .before .words-taken .ensures, c .before .before .before .before .before .before .before .before .before .loop .inv .same, c .before .before .before .before .before .before .before .before .before .before .before .before .before .good)
 
 loop-holds : tie.Need-loop-holds Inv-loop μ-loop
-loop-holds c = writing-start _ _ _ _ (c .before .before .before .pre .1 .0) (c .before .before .before .pre .1 .1)
+loop-holds c = writing-start _ _ _ _ _ (c .before .before .before .pre .1 .0) (c .before .before .before .pre .1 .1)
 
 mul-from : tie.Need-mul-from Inv-loop μ-loop
 mul-from c = search needs
@@ -77,7 +78,7 @@ put-command-requires c κs =
     let p = c .before .before .before in
     let l = p .before .before .before .loop in
     let n = c .before .before .words-taken in
-    omega (arith, room-left p, n .ensures, part-length _ _ _ _ (l .buffer) _ (l .i) (l .used) (l .at) (l .inv) _ (p .before .before .loop-test .taken) (command-is p) (n .result) (n .ensures))
+    omega (arith, room-left p, n .ensures, part-length _ _ _ _ _ (l .buffer) _ (l .i) (l .used) (l .at) (l .inv) _ (p .before .before .loop-test .taken) (command-is p) (n .result) (n .ensures))
 
 add-at : tie.Need-add-at Inv-loop μ-loop
 add-at c = omega (arith, next-at c)
@@ -99,13 +100,13 @@ loop-again c =
     let p = c .before .before .before .before .before .before in
     let l = p .before .before .before .loop in
     let n = c .before .before .before .before .before .words-taken in
-    writing-step _ _ _ _ (l .buffer) _ (l .i) (l .used) (l .at) (l .inv) _ (p .before .before .loop-test .taken) (command-is p) (n .result) _ (n .ensures) (c .before .before .put-command .ensures)
+    writing-step _ _ _ _ _ (l .buffer) _ (l .i) (l .used) (l .at) (l .inv) _ (p .before .before .loop-test .taken) (command-is p) (n .result) _ (n .ensures) (c .before .before .put-command .ensures)
 
 same-length : tie.Need-same-length Inv-loop μ-loop
 same-length c = search needs
 
 returns : tie.Need-returns Inv-loop μ-loop
-returns c = let l = c .before .loop in writing-end _ _ _ _ _ _ (l .i) (l .used) (l .at) (l .inv) (c .loop-test .left)
+returns c = let l = c .before .loop in writing-end _ _ _ _ _ _ _ (l .i) (l .used) (l .at) (l .inv) (c .loop-test .left)
 
 pub second-pass-spec : {M : Type 1} → statement M
 second-pass-spec =

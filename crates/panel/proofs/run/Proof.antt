@@ -31,13 +31,13 @@ same-length : tie.Need-same-length
 same-length c = search needs
 
 returns : tie.Need-returns
-returns c = drawn-with _ _ _ _ _ _ _ (c .before .before .before .before .before .before .before .before .before .before .stream .ensures .1) (c .before .before .before .before .before .before .before .draw .ensures .1 .1 .1)
+returns c = drawn-with _ _ _ _ _ (c .before .before .before .before .before .before .before .before .before .before .stream .ensures .1) (c .before .before .before .before .before .before .before .draw .ensures .1 .1 .1)
 
 same-length-2 : tie.Need-same-length-2
 same-length-2 c = search needs
 
 returns-2 : tie.Need-returns-2
-returns-2 c = drawn-with _ _ _ _ _ _ _ (c .before .before .before .before .before .before .before .before .before .before .before .stream .ensures .1) (c .before .before .before .before .before .before .before .before .draw .ensures .1 .1 .1)
+returns-2 c = drawn-with _ _ _ _ _ (c .before .before .before .before .before .before .before .before .before .before .before .stream .ensures .1) (c .before .before .before .before .before .before .before .before .draw .ensures .1 .1 .1)
 
 pub run-spec : {M : Type 1} → statement M
 run-spec =

@@ -3,6 +3,7 @@ use lib.ListN.{length}
 use borrow.Author.Needs.{needs}
 use Rattle.screen.specs.Screen.{memorySize}
 use Rattle.s1d.proofs.Answers.{drawn-narrow, drawn-accepted, drawn-refused}
+use Rattle.command.specs.Task.{task}
 use Rattle.s1d.proofs.Fits.{drawing-fits}
 use Rattle.s1d.proofs.s1d_draw.Statement.{statement}
 use Rattle.s1d.proofs.s1d_draw.Tie as tie
@@ -14,7 +15,7 @@ enum-known-answer : tie.Need-enum-known-answer
 enum-known-answer c = search needs
 
 six-values-requires : tie.Need-six-values-requires
-six-values-requires c κs = drawn-narrow _ _ (c .before .before .before .before .before .before .before .draw .ensures .0) _ _ (c .before .answer .given .1) (drawing-fits memorySize (omega arith) (c .before .before .before .before .before .before .before .before .before .before .before .before .before .before .before .args .screen .now) (c .before .before .before .before .before .before .before .before .before .before .before .before .before .before .before .args .list .now) (c .before .before .before .before .before .before .before .before .before .before .before .before .before .before .before .args .words .now) (length (c .before .before .before .before .before .before .before .before .before .before .before .before .before .before .before .args .stream .now)) (c .before .before .before .before .before .before .before .before .before .before .before .before .before .before .before .args .memory .now))
+six-values-requires c κs = drawn-narrow _ _ (c .before .before .before .before .before .before .before .draw .ensures .0) _ _ (c .before .answer .given .1) (drawing-fits memorySize (omega arith) (task (c .before .before .before .before .before .before .before .before .before .before .before .before .before .before .before .args .screen .now) (c .before .before .before .before .before .before .before .before .before .before .before .before .before .before .before .args .list .now) (c .before .before .before .before .before .before .before .before .before .before .before .before .before .before .before .args .words .now)) (length (c .before .before .before .before .before .before .before .before .before .before .before .before .before .before .before .args .stream .now)) (c .before .before .before .before .before .before .before .before .before .before .before .before .before .before .before .args .memory .now))
 
 enum-known-answer-2 : tie.Need-enum-known-answer-2
 enum-known-answer-2 c = search needs

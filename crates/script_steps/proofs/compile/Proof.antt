@@ -1,5 +1,6 @@
 use lib.ListN.{length, take}
 use Rattle.screen.specs.Screen.{memorySize}
+use Rattle.command.specs.Task.{task}
 use Rattle.compiler.specs.Compile.{compiling, bufferAfter, answerOf}
 use mathlib.Core.Path.{refl, sym}
 use native.Mathlib.Omega.{arith}
@@ -62,8 +63,8 @@ returns-2 c =
     let is = eq-eqb _ _ (c .before .before .before .before .before .before .before .before .before .before .if1 .left) in
     let list = list-on (a .desk .now) _ (c .before .before .before .before .before .number-at2 .ensures) in
     let words = taken (a .words .now) _ _ _ (c .before .before .before .before .before .before .least .ensures) (c .before .before .before .before .before .before .before .number-at .ensures) in (
-      yes _ is (at-parts (λ l w. answerOf (compiling memorySize (take 32 (a .desk .now)) l w (length (a .stream .now)))) (c .compile-into .ensures .1 .0) list words),
-      yes _ is (at-parts (λ l w. bufferAfter memorySize (take 32 (a .desk .now)) l w (a .stream .now)) (c .compile-into .ensures .1 .1) list words),
+      yes _ is (at-parts (λ l w. answerOf (compiling memorySize (task (take 32 (a .desk .now)) l w) (length (a .stream .now)))) (c .compile-into .ensures .1 .0) list words),
+      yes _ is (at-parts (λ l w. bufferAfter memorySize (task (take 32 (a .desk .now)) l w) (a .stream .now)) (c .compile-into .ensures .1 .1) list words),
     )
 
 pub compile-spec : {M : Type 1} → statement M

@@ -1,9 +1,5 @@
-use mathlib.Core.Path.{_≡_, refl, sym, ap, _∙_}
-use native.Mathlib.Omega.{arith}
-use Rattle.reader.specs.Read.{readingOf, reading, displayOf}
-use Rattle.screen.specs.Screen.{memorySize, numberOf}
-use Rattle.screen.proofs.Read.{read-accepted}
-use Rattle.unit.proofs.Show.{show-size, show-refused, show-reads, screen-refused, screen-accepted}
+use mathlib.Core.Path.{sym, _∙_}
+use Rattle.unit.proofs.Show.{show-size, screen-refused, screen-accepted}
 use borrow.Author.Needs.{needs}
 use Rattle.unit_code.proofs.shown.Statement.{statement}
 use Rattle.unit_code.proofs.shown.Tie as tie
@@ -22,20 +18,8 @@ enum-known-answer c = search needs
 enum-known-answer-2 : tie.Need-enum-known-answer-2
 enum-known-answer-2 c = search needs
 
-cast-t13 : tie.Need-cast-t13
-cast-t13 c = search needs
-
-cast-t14 : tie.Need-cast-t14
-cast-t14 c = search needs
-
-cast-t15 : tie.Need-cast-t15
-cast-t15 c = search needs
-
-cast-t16 : tie.Need-cast-t16
-cast-t16 c = search needs
-
-cast-t17 : tie.Need-cast-t17
-cast-t17 c = search needs
+display-of-requires : tie.Need-display-of-requires
+display-of-requires c κs = search needs
 
 screen-values-requires : tie.Need-screen-values-requires
 screen-values-requires c κs = search needs
@@ -50,11 +34,11 @@ returns-2 c =
     screen-refused (a .screen .now) (a .p) (a .q) (a .memory .now) (c .before .before .before .before .if1 .left) (g .0 .0) (sym (c .before .before .before .read-screen .ensures .0) ∙ g .1)
 
 returns-3 : tie.Need-returns-3
-unfolding displayOf
 returns-3 c =
-    let a = c .before .before .before .before .before .before .before .before .before .before .before .before .before .before .args in
-    let g = c .before .before .before .before .before .before .before .before .answer2 .given in
-    screen-accepted (a .screen .now) (a .p) (a .q) (a .memory .now) (c .before .before .before .before .before .before .before .before .before .before .before .if1 .left) (g .0 .0) (sym (c .before .before .before .before .before .before .before .before .before .before .read-screen .ensures .0) ∙ g .1) (λ k. (c .before .before .before .before .before .before .before .before .before .before .before .before .shared-slice-known2 .given k) .fits) _ refl _ (c .before .screen-values .ensures) _ (c .read-point .ensures .0) (c .read-point .ensures .1)
+    let a = c .before .before .before .before .before .before .before .before .before .before .args in
+    let g = c .before .before .before .before .answer2 .given in
+    screen-accepted (a .screen .now) (a .p) (a .q) (a .memory .now) (c .before .before .before .before .before .before .before .if1 .left) (g .0 .0) (sym (c .before .before .before .before .before .before .read-screen .ensures .0) ∙ g .1)
+    (λ k. (c .before .before .before .before .before .before .before .before .shared-slice-known2 .given k) .fits) _ (c .before .before .display-of .ensures) _ (c .before .screen-values .ensures) _ (c .read-point .ensures .0) (c .read-point .ensures .1)
 
 pub shown-spec : {M : Type 1} → statement M
 shown-spec =
@@ -64,11 +48,7 @@ shown-spec =
     read-screen-requires
     enum-known-answer
     enum-known-answer-2
-    cast-t13
-    cast-t14
-    cast-t15
-    cast-t16
-    cast-t17
+    display-of-requires
     screen-values-requires
     read-point-requires
     returns-2

@@ -1,0 +1,160 @@
+-- A task without a refusal of 1 to 16, and where a refusal stands.
+use Prim.Native.Nat.{ℕ, _*_, _/_, _%_, _<_, _≤_}
+use mathlib.Core.Path.{_≡_, refl, sym, _∙_}
+use mathlib.Core.List.{List, _++_}
+use mathlib.Core.Bool.{Bool, true, false, not, _&&_, cond, and-eq-true-iff}
+use mathlib.Core.Logic.{_⊎_, inl, inr}
+use native.Mathlib.Omega.{arith}
+use lib.ListN.{length}
+use lib.Dec.{eqb, ltb, leb, lit<}
+use borrow.Author.Tests.{eqb-true, eqb-false, ne-eqb, leb-true, ltb-false, lt-ltb, le-ltb, not-false}
+use Rattle.record.specs.Checks.{Row, row, firstOf, Refusal}
+use Rattle.record.proofs.Checks.{none, passed, first-part, second-part, row-fails, row-passes, rows-end}
+use Rattle.record.proofs.Lists.{length-parts}
+use Rattle.screen.specs.Screen.{fieldRows, screenRows}
+use Rattle.screen.specs.declared.Screen.{Screen}
+use Rattle.screen.proofs.Read.{screen-numbered, accepts, read-accepted}
+use Rattle.command.specs.Task.{Task, screenIn, commandsIn, listRows, firstRefusal, allWords, wordRows, taskRefusal}
+use Rattle.command.proofs.Numbers.{between, first-between}
+use Rattle.command.proofs.Commands.{AllFine, all-fine, words-suffice, RefusesOne, refusal-place}
+
+-- ---- rows 10, 11 and 16
+pub list-says : (size : ℕ) (s : Screen) (list : List ℕ) → firstOf (listRows size s list) ≡ 0 → (length list % size ≡ 0) × (length list ≤ 64 * size) × (0 < length list → 8 ≤ s .depth)
+unfolding listRows
+list-says size s list e =
+    let p = passed (row 10 _) _ (lit< tt) e in
+    let q = passed (row 11 _) _ (lit< tt) (p .1) in
+    let w = simp and-eq-true-iff at (not-false (eqb (length list % size) 0 && leb (length list) (64 * size)) (p .0)) in
+    (eqb-true (length list % size) 0 (w .0), leb-true (length list) (64 * size) (w .1), λ h. deep (ltb 0 (length list)) (lt-ltb 0 (length list) h) (q .0))
+  where
+    deep : (t : Bool) → t ≡ true → (t && ltb (s .depth) 8) ≡ false → 8 ≤ s .depth
+    deep t h f = ltb-false (s .depth) 8 (rw h at f)
+
+module _ (t : Task) where
+  pub words-left : allWords (screenIn t) (commandsIn t) < length (t .words) → 16 ≡ firstOf (wordRows t)
+  unfolding wordRows
+  words-left h = row-fails _ (lt-ltb _ _ h)
+
+  pub words-fit : length (t .words) ≤ allWords (screenIn t) (commandsIn t) → 0 ≡ firstOf (wordRows t)
+  unfolding wordRows
+  words-fit h = row-passes 16 _ (le-ltb _ _ h) rows-end
+
+  pub words-say : firstOf (wordRows t) ≡ 0 → length (t .words) ≤ allWords (screenIn t) (commandsIn t)
+  unfolding wordRows
+  words-say e = ltb-false _ _ (passed (row 16 _) _ (lit< tt) e .0)
+
+-- ---- the refusal, by the check that fails
+module _ (m : ℕ) (t : Task) where
+  pub by-screen : (n : ℕ) → 0 < n → firstOf (screenRows m (t .screen)) ≡ n → taskRefusal m t ≡ record { number = n; place = 0 }
+  unfolding taskRefusal
+  by-screen n h e =
+      let f : firstOf (screenRows m (t .screen) ++ listRows (t .size) (screenIn t) (t .list)) ≡ n = first-part (screenRows m (t .screen)) (listRows (t .size) (screenIn t) (t .list)) (rw e h) ∙ e in
+      rw (f, ne-eqb n 0 (λ z. omega arith))
+
+  module _ (e : firstOf (screenRows m (t .screen)) ≡ 0) where
+    first-is : firstOf (screenRows m (t .screen) ++ listRows (t .size) (screenIn t) (t .list)) ≡ firstOf (listRows (t .size) (screenIn t) (t .list))
+    first-is = second-part (screenRows m (t .screen)) (listRows (t .size) (screenIn t) (t .list)) (none (screenRows m (t .screen)) (screen-numbered m (t .screen)) e)
+
+    pub by-list : (n : ℕ) → 0 < n → firstOf (listRows (t .size) (screenIn t) (t .list)) ≡ n → taskRefusal m t ≡ record { number = n; place = 0 }
+    unfolding taskRefusal
+    by-list n h f = rw (first-is, f, ne-eqb n 0 (λ z. omega arith))
+
+    module _ (f : firstOf (listRows (t .size) (screenIn t) (t .list)) ≡ 0) where
+      pub by-command : (n i : ℕ) → 0 < n → firstRefusal (screenIn t) 0 (length (t .words)) (commandsIn t) ≡ record { number = n; place = i } → taskRefusal m t ≡ record { number = n; place = i }
+      unfolding taskRefusal
+      by-command n i h d = rw (first-is, f, d, ne-eqb n 0 (λ z. omega arith))
+
+      pub by-end : firstRefusal (screenIn t) 0 (length (t .words)) (commandsIn t) .number ≡ 0 → taskRefusal m t ≡ record { number = firstOf (wordRows t); place = 0 }
+      unfolding taskRefusal
+      by-end d = rw (first-is, f, d)
+
+-- ---- none of 1 to 16
+pub record Accepted (m : ℕ) (t : Task) : Type 0 where
+  pub number : taskRefusal m t .number ≡ 0
+  pub screen : firstOf (screenRows m (t .screen)) ≡ 0
+  pub fields : firstOf (fieldRows m (screenIn t)) ≡ 0
+  pub flag : screenIn t .flag ≤ 1
+  pub whole : length (t .list) % t .size ≡ 0
+  pub few : length (t .list) ≤ 64 * t .size
+  pub deep : 0 < length (t .list) → 8 ≤ screenIn t .depth
+  pub none-refused : firstRefusal (screenIn t) 0 (length (t .words)) (commandsIn t) .number ≡ 0
+  pub fine : AllFine (screenIn t) (length (t .words)) (commandsIn t)
+  pub taken : allWords (screenIn t) (commandsIn t) ≡ length (t .words)
+
+first-zero : (a b : List Row) → firstOf (a ++ b) ≡ 0 → firstOf a ≡ 0
+first-zero a b e = chosen (eqb (firstOf a) 0) refl
+  where
+    chosen : (t : Bool) → eqb (firstOf a) 0 ≡ t → firstOf a ≡ 0
+    chosen true h = eqb-true (firstOf a) 0 h
+    chosen false h = absurd (above (eqb-false (firstOf a) 0 h))
+      where
+        above : (firstOf a ≡ 0 → ⊥) → ⊥
+        above g = let k : 0 < firstOf a = omega arith in omega (arith, first-part a b k)
+
+-- the first of f, a refusal d in the list, and e
+abbrev firstIn : ℕ → Refusal → ℕ → Refusal
+firstIn f d e = cond (not (eqb f 0)) (record { number = f; place = 0 }) (cond (not (eqb (d .number) 0)) d (record { number = e; place = 0 }))
+
+no-number : (f e : ℕ) (d : Refusal) → firstIn f d e .number ≡ 0 → (f ≡ 0) × (d .number ≡ 0) × (e ≡ 0)
+no-number f e d h = chosen (eqb f 0) (eqb (d .number) 0) refl refl h
+  where
+    chosen : (t u : Bool) → eqb f 0 ≡ t → eqb (d .number) 0 ≡ u → cond (not t) (record { number = f; place = 0 }) (cond (not u) d (record { number = e; place = 0 })) .number ≡ 0 → (f ≡ 0) × (d .number ≡ 0) × (e ≡ 0)
+    chosen true true p q k = (eqb-true f 0 p, eqb-true (d .number) 0 q, k)
+    chosen true false p q k = absurd (eqb-false (d .number) 0 q k)
+    chosen false u p q k = absurd (eqb-false f 0 p k)
+
+pub accepted-says : (m : ℕ) (t : Task) → taskRefusal m t .number ≡ 0 → Accepted m t
+unfolding taskRefusal
+accepted-says m t e =
+    let sc = screenRows m (t .screen) in
+    let li = listRows (t .size) (screenIn t) (t .list) in
+    let p = no-number (firstOf (sc ++ li)) (firstOf (wordRows t)) (firstRefusal (screenIn t) 0 (length (t .words)) (commandsIn t)) e in
+    let s = first-zero sc li (p .0) in
+    let r = read-accepted m (t .screen) (screenIn t) (sym (accepts m (t .screen) s)) in
+    let l = list-says (t .size) (screenIn t) (t .list) (sym (second-part sc li (none sc (screen-numbered m (t .screen)) s)) ∙ p .0) in
+    let a = all-fine (screenIn t) 0 (length (t .words)) (commandsIn t) (p .1) in
+    record {
+      number = e;
+      screen = s;
+      fields = r .2;
+      flag = r .3;
+      whole = l .0;
+      few = l .1;
+      deep = l .2;
+      none-refused = p .1;
+      fine = a;
+      taken = omega (arith, words-suffice (screenIn t) (length (t .words)) (commandsIn t) a, words-say t (p .2));
+    }
+
+-- ---- where a refusal stands
+-- a command of the list at 12 to 15, else place 0
+abbrev pub Placed : ℕ → Refusal → Type 0
+Placed count r = RefusesOne count r ⊎ (((r .number ≤ 11) ⊎ (16 ≤ r .number)) × (r .place ≡ 0))
+
+placed-by : (count f e : ℕ) (d : Refusal) → (0 < f → f ≤ 11) → (0 < d .number → RefusesOne count d) → (0 < e → 16 ≤ e) → Placed count (firstIn f d e)
+placed-by count f e d hf hd he = chosen (eqb f 0) (eqb (d .number) 0) (eqb e 0) refl refl refl
+  where
+    above : (n : ℕ) → (n ≡ 0 → ⊥) → 0 < n
+    above n g = omega arith
+
+    chosen : (t u v : Bool) → eqb f 0 ≡ t → eqb (d .number) 0 ≡ u → eqb e 0 ≡ v → Placed count (cond (not t) (record { number = f; place = 0 }) (cond (not u) d (record { number = e; place = 0 })))
+    chosen true true true p q r = inr (inl (omega (arith, eqb-true e 0 r)), refl)
+    chosen true true false p q r = inr (inr (he (above e (eqb-false e 0 r))), refl)
+    chosen true false v p q r = inl (hd (above (d .number) (eqb-false (d .number) 0 q)))
+    chosen false u v p q r = inr (inl (hf (above f (eqb-false f 0 p))), refl)
+
+module _ (m : ℕ) (t : Task) where
+  first-number : 0 < firstOf (screenRows m (t .screen) ++ listRows (t .size) (screenIn t) (t .list)) → firstOf (screenRows m (t .screen) ++ listRows (t .size) (screenIn t) (t .list)) ≤ 11
+  unfolding screenRows fieldRows listRows between
+  first-number h = first-between 1 11 (screenRows m (t .screen) ++ listRows (t .size) (screenIn t) (t .list)) refl h .1
+
+  last-number : 0 < firstOf (wordRows t) → 16 ≤ firstOf (wordRows t)
+  unfolding wordRows between
+  last-number h = first-between 16 16 (wordRows t) refl h .0
+
+  in-list : 0 < firstRefusal (screenIn t) 0 (length (t .words)) (commandsIn t) .number → RefusesOne (length (t .list) / t .size) (firstRefusal (screenIn t) 0 (length (t .words)) (commandsIn t))
+  in-list h = let k = refusal-place (screenIn t) 0 (length (t .words)) (commandsIn t) h in (k .0, k .1, omega (arith, length-parts (t .size) (t .list)))
+
+  pub task-placed : Placed (length (t .list) / t .size) (taskRefusal m t)
+  unfolding taskRefusal
+  task-placed = placed-by (length (t .list) / t .size) (firstOf (screenRows m (t .screen) ++ listRows (t .size) (screenIn t) (t .list))) (firstOf (wordRows t)) (firstRefusal (screenIn t) 0 (length (t .words)) (commandsIn t)) first-number in-list last-number

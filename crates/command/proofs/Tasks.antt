@@ -1,0 +1,83 @@
+-- Cases by computation: tasks, with the first refusal of 1 to 16 and its place.
+use Prim.Native.Nat.{ℕ, zero, suc}
+use mathlib.Core.Path.{_≡_, refl}
+use mathlib.Core.List.{List, [], _∷_, _++_, map}
+use mathlib.Core.Bool.{true, false}
+use lib.ListN.{replicate}
+use Rattle.record.specs.Bytes.{allZero}
+use Rattle.record.specs.Lists.{partsFrom, partsOf}
+use Rattle.record.specs.Checks.{firstOf, Refusal}
+use Rattle.pixel.specs.Depth.{isDepth}
+use Rattle.screen.specs.Image.{imageEnd, startOf}
+use Rattle.screen.specs.Screen.{memorySize, fieldsOf, wellFormed, panelOk, viewWidth, viewHeight, wholeDwords, mainImage, windowImage, imageOk, windowOk, windowWhole, fieldRows, screenRows}
+use Rattle.screen.specs.Values.{windowX, windowY, originOf, valuesOf}
+use Rattle.screen.specs.Cases.{plain}
+use Rattle.command.specs.Command.{commandOf, surfaceOf, mustBeZero, formed, insideImage, placed, lineWords, wordsTaken, commandRows, refusal}
+use Rattle.command.specs.Task.{Task, task, listRows, firstRefusal, allWords, wordRows, taskRefusal, isAccepted}
+
+-- 320 by 240 at a depth, base 0
+abbrev pub panel : ℕ → List ℕ
+panel depth = plain depth 0 320 240 0
+
+-- the same at depth 8 with a window of 8 by 1 whose base is 2
+abbrev pub badWindow : List ℕ
+badWindow = 8 ∷ 0 ∷ 1 ∷ 0 ∷ 64 ∷ 1 ∷ 240 ∷ 0 ∷ 0 ∷ 0 ∷ 0 ∷ 0 ∷ 2 ∷ 0 ∷ 0 ∷ 0 ∷ 0 ∷ 0 ∷ 0 ∷ 0 ∷ 8 ∷ 0 ∷ 1 ∷ replicate 9 0
+
+-- B1's fill; a move by one pixel to the right; a write of three by two pixels
+abbrev pub fill : List ℕ
+fill = 0 ∷ 0 ∷ 0 ∷ 0 ∷ 10 ∷ 0 ∷ 20 ∷ 0 ∷ 100 ∷ 0 ∷ 150 ∷ 0 ∷ 0 ∷ 0 ∷ 0 ∷ 0 ∷ 1 ∷ replicate 15 0
+
+abbrev pub move : List ℕ
+move = 1 ∷ 0 ∷ 0xC ∷ 0 ∷ 1 ∷ 0 ∷ 0 ∷ 0 ∷ 7 ∷ 0 ∷ 1 ∷ 0 ∷ replicate 20 0
+
+abbrev pub write : List ℕ
+write = 2 ∷ 0 ∷ 0xC ∷ 0 ∷ 1 ∷ 0 ∷ 0 ∷ 0 ∷ 3 ∷ 0 ∷ 2 ∷ 0 ∷ replicate 20 0
+
+-- operation 3; a rectangle of no width; one that ends past the surface
+abbrev pub strange : List ℕ
+strange = 3 ∷ replicate 31 0
+
+abbrev pub empty : List ℕ
+empty = 0 ∷ 0 ∷ 0 ∷ 0 ∷ 10 ∷ 0 ∷ 20 ∷ 0 ∷ 0 ∷ 0 ∷ 150 ∷ 0 ∷ replicate 20 0
+
+abbrev pub outside : List ℕ
+outside = 0 ∷ 0 ∷ 0 ∷ 0 ∷ 10 ∷ 0 ∷ 91 ∷ 0 ∷ 100 ∷ 0 ∷ 150 ∷ 0 ∷ replicate 20 0
+
+abbrev pub times : ℕ → List ℕ → List ℕ
+times zero l = []
+times (suc n) l = l ++ times n l
+
+abbrev pub fourWords : List ℕ
+fourWords = 0x201 ∷ 3 ∷ 0x504 ∷ 6 ∷ []
+
+abbrev refused : ℕ → ℕ → Refusal
+refused n i = record { number = n; place = i }
+
+-- accepted: a screen alone, two writes with their words, 64 commands. Then 1, 9 before 10, 10 before 11, 65 commands, 11 before 12, 12
+-- before 16, 14 before a later 12, 15 by the words that are left, 16
+abbrev tasks : List Task
+tasks =
+    task (panel 1) [] []
+    ∷ task (panel 8) (fill ++ write ++ write) (fourWords ++ fourWords)
+    ∷ task (panel 8) (times 64 fill) []
+    ∷ task [] [] []
+    ∷ task badWindow (0 ∷ fill) []
+    ∷ task (panel 4) (0 ∷ fill) []
+    ∷ task (panel 8) (times 65 fill) []
+    ∷ task (panel 4) strange []
+    ∷ task (panel 8) (fill ++ strange) fourWords
+    ∷ task (panel 8) (fill ++ outside ++ strange) []
+    ∷ task (panel 8) (write ++ fill ++ write) (0 ∷ fourWords)
+    ∷ task (panel 8) (fill ++ write) (0 ∷ fourWords)
+    ∷ []
+
+abbrev refusals : List Refusal
+refusals = refused 0 0 ∷ refused 0 0 ∷ refused 0 0 ∷ refused 1 0 ∷ refused 9 0 ∷ refused 10 0 ∷ refused 10 0 ∷ refused 11 0 ∷ refused 12 1 ∷ refused 14 1 ∷ refused 15 2 ∷ refused 16 0 ∷ []
+
+pub tasks-hold : map (taskRefusal memorySize) tasks ≡ refusals
+unfolding allZero firstOf partsFrom partsOf isDepth imageEnd startOf fieldsOf wellFormed panelOk viewWidth viewHeight wholeDwords mainImage windowImage imageOk windowOk windowWhole fieldRows screenRows windowX windowY originOf valuesOf commandOf surfaceOf mustBeZero formed insideImage placed lineWords wordsTaken commandRows refusal listRows firstRefusal allWords wordRows taskRefusal
+tasks-hold = refl
+
+pub accepted-hold : map (isAccepted memorySize) (task (panel 1) [] [] ∷ task [] [] [] ∷ []) ≡ true ∷ false ∷ []
+unfolding allZero firstOf partsFrom partsOf isDepth imageEnd startOf fieldsOf wellFormed panelOk viewWidth viewHeight wholeDwords mainImage windowImage imageOk windowOk windowWhole fieldRows screenRows windowX windowY originOf valuesOf listRows firstRefusal allWords wordRows taskRefusal
+accepted-hold = refl

@@ -1,0 +1,72 @@
+-- What compiling is given, and its refusals 1 to 16 (01, "Refusal numbers": "Compiling checks 1 to 11, then 12 to 15 command by
+-- command, then 16, 17"). The last, 17, is asked where there is a stream buffer.
+use Prim.Native.Nat.{ℕ, suc, _+_, _-_, _*_, _%_}
+use mathlib.Core.List.{List, [], _∷_, _++_}
+use mathlib.Core.Bool.{Bool, not, _&&_, cond}
+use lib.ListN.{length}
+use lib.Dec.{leb, ltb, eqb}
+use Rattle.record.specs.Lists.{partsOf}
+use Rattle.record.specs.Checks.{Row, row, firstOf, Refusal}
+use Rattle.screen.specs.Screen.{fieldsOf, screenRows}
+use Rattle.screen.specs.declared.Screen.{Screen}
+use Rattle.command.specs.Command.{commandOf, wordsTaken, refusal}
+
+-- bytes of a command record
+abbrev pub commandSize : ℕ
+commandSize = 32
+
+-- a screen record, a command list, host words, and the bytes of one of the list's records
+pub record Task : Type 0 where
+  pub screen : List ℕ
+  pub list : List ℕ
+  pub words : List ℕ
+  pub size : ℕ
+
+-- a task whose commands are 32 bytes each
+abbrev pub task : List ℕ → List ℕ → List ℕ → Task
+task screen list words = record { screen = screen; list = list; words = words; size = commandSize }
+
+-- the screen of its record
+abbrev pub screenIn : Task → Screen
+screenIn t = fieldsOf (t .screen)
+
+-- the commands of its list
+abbrev pub commandsIn : Task → List (List ℕ)
+commandsIn t = partsOf (t .size) (t .list)
+
+-- rows 10 and 11
+unfoldable pub listRows : ℕ → Screen → List ℕ → List Row
+listRows size s list =
+    row 10 (not (eqb (length list % size) 0 && leb (length list) (64 * size)))
+    ∷ row 11 (ltb 0 (length list) && ltb (s .depth) 8)
+    ∷ []
+
+-- the first refusal of commands, of which the first has index i, with so many host words left; number 0 for none
+unfoldable pub firstRefusal : Screen → ℕ → ℕ → List (List ℕ) → Refusal
+firstRefusal s i left [] = record { number = 0; place = 0 }
+firstRefusal s i left (b ∷ bs) =
+    cond (eqb (refusal s left b) 0)
+    (firstRefusal s (suc i) (left - wordsTaken s (commandOf b)) bs)
+    (record { number = refusal s left b; place = i })
+
+-- host words that commands take
+unfoldable pub allWords : Screen → List (List ℕ) → ℕ
+allWords s [] = 0
+allWords s (b ∷ bs) = wordsTaken s (commandOf b) + allWords s bs
+
+-- row 16: words left over
+unfoldable pub wordRows : Task → List Row
+wordRows t = row 16 (ltb (allWords (screenIn t) (commandsIn t)) (length (t .words))) ∷ []
+
+-- the first refusal of 1 to 16, the memory being m bytes
+unfoldable pub taskRefusal : ℕ → Task → Refusal
+taskRefusal m t =
+    let first = firstOf (screenRows m (t .screen) ++ listRows (t .size) (screenIn t) (t .list)) in
+    let inList = firstRefusal (screenIn t) 0 (length (t .words)) (commandsIn t) in
+    cond (not (eqb first 0)) (record { number = first; place = 0 })
+    (cond (not (eqb (inList .number) 0)) inList
+    (record { number = firstOf (wordRows t); place = 0 }))
+
+-- none of 1 to 16 is given
+abbrev pub isAccepted : ℕ → Task → Bool
+isAccepted m t = eqb (taskRefusal m t .number) 0

@@ -1,0 +1,84 @@
+-- Laws of lists by their elements, of limits on numbers, and of a list's parts.
+use Prim.Native.Nat.{ℕ, zero, suc, _+_, _-_, _*_, _/_, _<_, _≤_}
+use mathlib.Core.Path.{_≡_, refl, sym, ap, subst}
+use mathlib.Core.List.{List, [], _∷_}
+use mathlib.Core.Logic.{⊎-elim}
+use native.Mathlib.Nat.{le-of-suc-le-suc, not-suc-le-zero}
+use native.Mathlib.Numerals.{add-one}
+use native.Mathlib.Omega.{arith}
+use lib.ListN.{length, getD, take, drop, length-take}
+use lib.Seq.{getD-take, getD-drop}
+use Rattle.record.specs.Lists.{AllBelow, tabulate, partsFrom, partsOf}
+use Rattle.record.proofs.Choice.{below-or-not}
+
+-- ---- a list from its elements
+pub length-tabulate : (n : ℕ) (f : ℕ → ℕ) → length (tabulate n f) ≡ n
+length-tabulate zero f = refl
+length-tabulate (suc n) f = ap suc (length-tabulate n (λ k. f (suc k)))
+
+pub getD-tabulate : (n : ℕ) (f : ℕ → ℕ) (i : ℕ) → i < n → getD (tabulate n f) i 0 ≡ f i
+getD-tabulate zero f i h = absurd (not-suc-le-zero h)
+getD-tabulate (suc n) f zero h = refl
+getD-tabulate (suc n) f (suc i) h = getD-tabulate n (λ k. f (suc k)) i (le-of-suc-le-suc h)
+
+pub tabulate-ext : (n : ℕ) (f g : ℕ → ℕ) → ((a : ℕ) → f a ≡ g a) → tabulate n f ≡ tabulate n g
+tabulate-ext n f g e = λ t. tabulate n (λ a. e a t)
+
+-- ---- numbers below a limit
+pub nothing-past : (xs : List ℕ) (k : ℕ) → length xs ≤ k → getD xs k 0 ≡ 0
+nothing-past [] k h = refl
+nothing-past (x ∷ xs) zero h = absurd (omega arith)
+nothing-past (x ∷ xs) (suc k) h = nothing-past xs k (omega arith)
+
+pub below-drop : (limit n : ℕ) (xs : List ℕ) → AllBelow limit xs → AllBelow limit (drop n xs)
+below-drop limit n xs h = λ k. subst (λ (x : ℕ). x < limit) (sym (getD-drop n xs k 0)) (h (n + k))
+
+pub below-take : (limit n : ℕ) (xs : List ℕ) → AllBelow limit xs → AllBelow limit (take n xs)
+below-take limit n xs h = λ k.
+    ⊎-elim
+    (λ p. subst (λ (x : ℕ). x < limit) (sym (getD-take n xs k 0 p)) (h k))
+    (λ p. subst (λ (x : ℕ). x < limit) (sym (past k p)) (omega (arith, h 0)))
+    (below-or-not k n)
+  where
+    past : (k : ℕ) → n ≤ k → getD (take n xs) k 0 ≡ 0
+    past k p = nothing-past (take n xs) k (simp length-take (omega arith))
+
+pub below-tabulate : (limit : ℕ) → 0 < limit → (n : ℕ) (f : ℕ → ℕ) → ((a : ℕ) → f a < limit) → AllBelow limit (tabulate n f)
+below-tabulate limit pos n f h = λ k.
+    ⊎-elim
+    (λ p. subst (λ (x : ℕ). x < limit) (sym (getD-tabulate n f k p)) (h k))
+    (λ p. subst (λ (x : ℕ). x < limit) (sym (nothing-past (tabulate n f) k (subst (λ (x : ℕ). x ≤ k) (sym (length-tabulate n f)) p))) pos)
+    (below-or-not k n)
+
+-- ---- a list's parts
+pub parts-step : (size : ℕ) (list : List ℕ) (i n : ℕ) → i < n → partsFrom size list i (n - i) ≡ take size (drop (i * size) list) ∷ partsFrom size list (i + 1) (n - (i + 1))
+unfolding partsFrom
+parts-step size list i n h = let e : n - i ≡ suc (n - (i + 1)) = omega arith in rw (e, add-one)
+
+pub parts-end : (size : ℕ) (list : List ℕ) (i n : ℕ) → n ≤ i → partsFrom size list i (n - i) ≡ []
+unfolding partsFrom
+parts-end size list i n h = let e : n - i ≡ 0 = omega arith in rw e
+
+length-from : (size : ℕ) (list : List ℕ) (i n : ℕ) → length (partsFrom size list i n) ≡ n
+unfolding partsFrom
+length-from size list i zero = refl
+length-from size list i (suc n) = ap suc (length-from size list (suc i) n)
+
+pub length-parts : (size : ℕ) (list : List ℕ) → length (partsOf size list) ≡ length list / size
+unfolding partsOf
+length-parts size list = length-from size list 0 (length list / size)
+
+-- each part's numbers are below the limit
+unfoldable pub EachBelow : ℕ → List (List ℕ) → Type 0
+EachBelow limit [] = Unit {0}
+EachBelow limit (b ∷ bs) = AllBelow limit b × EachBelow limit bs
+
+below-from : (limit size : ℕ) (list : List ℕ) → AllBelow limit list → (i n : ℕ) → EachBelow limit (partsFrom size list i n)
+unfolding partsFrom EachBelow
+below-from limit size list h i zero = tt
+below-from limit size list h i (suc n) =
+    (below-take limit size (drop (i * size) list) (below-drop limit (i * size) list h), below-from limit size list h (suc i) n)
+
+pub below-parts : (limit size : ℕ) (list : List ℕ) → AllBelow limit list → EachBelow limit (partsOf size list)
+unfolding partsOf
+below-parts limit size list h = below-from limit size list h 0 (length list / size)
