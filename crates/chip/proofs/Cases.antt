@@ -11,6 +11,8 @@ use Rattle.pixel.specs.Pixel.{getPixel, putPixel}
 use Rattle.pixel.specs.Raster.{bitwise}
 use Rattle.blit.specs.Blit.{pixels, chipLine, chipLines, chipBlit}
 use Rattle.blit.specs.Job.{blitOf}
+use Rattle.blit.specs.declared.Mix.the-variants.{Store, Raster}
+use Rattle.blit.specs.declared.From.the-variants.{Colour, Memory}
 use Rattle.blit.specs.Words.{wordPixel, chipWord}
 use Rattle.chip.specs.Register.{listed, fits, screenAfter, blitAfter}
 use Rattle.chip.specs.Start.{operation, rasterCode, bytesOf, sourceOf, destinationOf, lineOf, widthOf, heightOf, foregroundOf, sourceFits, startable, span, within, mixBy, fromBy, jobOf, writeOf, started}
@@ -288,3 +290,19 @@ wide-write =
 pub wide-written : (playing 8 (streamBytes wide-write) line8 .number ≡ 0) × (played 8 (streamBytes wide-write) line8 ≡ 1 ∷ 2 ∷ 3 ∷ 4 ∷ 1 ∷ 2 ∷ 3 ∷ 4 ∷ [])
 unfolding firstOf recordBytes streamBytes recordAt recordsFrom recordsOf getPixel putPixel bitwise pixels wordPixel chipWord listed fits screenAfter blitAfter sourceFits startable span within mixBy writeOf started admitRows refusal dueAfter dueOf chipAfter effect newChip run applied ending playing played
 wide-written = (refl, refl)
+
+-- ---- the table of operations, cell by cell: write, up, down, fill, and one that the model has not
+abbrev with-command : ℕ → Registers
+with-command v = record { control = 0; command = v; source = 5; destination = 9; offset = 4; width = 0; height = 0; background = 0; foreground = 7 }
+
+abbrev operations : List ℕ
+operations = 0x60000 ∷ 0x60002 ∷ 0x60003 ∷ 0x6000C ∷ 0x60001 ∷ []
+
+pub cells : (map (λ v. mixBy (with-command v)) operations ≡ Raster 6 ∷ Raster 6 ∷ Raster 6 ∷ Store ∷ Store ∷ [])
+    × (map (λ v. fromBy (with-command v)) operations ≡ Colour 0 ∷ Memory 5 ∷ Memory 5 ∷ Colour 7 ∷ Colour 0 ∷ [])
+    × (map (λ v. within 9 (with-command v)) operations ≡ false ∷ false ∷ false ∷ false ∷ true ∷ [])
+    × (map (λ v. within 10 (with-command v)) operations ≡ true ∷ true ∷ true ∷ true ∷ true ∷ [])
+    × (map (λ v. sourceFits (with-command v)) operations ≡ false ∷ true ∷ true ∷ true ∷ false ∷ [])
+    × (started (with-command 0x60001) line8 ≡ line8)
+unfolding mixBy fromBy span within sourceFits started
+cells = (refl, refl, refl, refl, refl, refl)
