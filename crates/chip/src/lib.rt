@@ -2,6 +2,7 @@
 use screen::ScreenValues;
 
 // The blit registers 8000h, 8008h, 800Ch, 8010h, 8014h, 8018h, 801Ch, 8020h and 8024h.
+#[repr(C)]
 pub struct Registers {
     pub control: u32,
     pub command: u32,

@@ -5,6 +5,7 @@ use mathlib.Core.List.{List, [], _∷_}
 use Rattle.screen.specs.Screen.{memorySize}
 use Rattle.screen.specs.declared.ScreenValues.{ScreenValues}
 use Rattle.screen.proofs.Fits.{InFields}
+use Rattle.screen.specs.Narrow.{Narrow}
 use Rattle.screen.specs.Values.{sixValues}
 use Rattle.command.specs.Task.{commandSize}
 use Rattle.compiler.specs.Compile.{Compiling, compilingOf}
@@ -21,8 +22,8 @@ use Rattle.reader.specs.declared.PointAnswer.the-variants as PointAnswer
 use Rattle.unit.specs.Draw.{Drawing, drawingOf}
 use Rattle.unit.specs.declared.Drawn.{Drawn}
 use Rattle.unit.specs.declared.Drawn.the-variants as Drawn
-use Rattle.s1d.specs.Answers.{compiledOf, playedOf, pointOf, drawnOf}
-use Rattle.s1d.specs.Narrow.{Narrow}
+use Rattle.serial.specs.Serial.{answerOf}
+use Rattle.s1d.specs.Answers.{compiledOf, pointOf, drawnOf}
 use Rattle.s1d.proofs.Fits.{narrow}
 
 -- ---- compiling
@@ -53,15 +54,15 @@ module _ (a : Played) (p : Playing) (given : playingOf a ≡ p) where
   played-narrow v e f = narrow v (subst (λ (x : Playing). InFields (x .values)) (sym (ap playingOf (sym e) ∙ given)) f)
 
   pub played-accepted : (v : ScreenValues) (six : List ℕ) → a ≡ Played.Accepted v → six ≡ sixValues v
-      → record { number = 0; place = 0; values = six } ≡ playedOf p
-  unfolding playedOf playingOf
+      → record { number = 0; place = 0; values = six } ≡ answerOf p
+  unfolding answerOf playingOf
   played-accepted v six e h =
-      ap (λ (x : List ℕ). record { number = 0; place = 0; values = x }) h ∙ ap playedOf (ap playingOf (sym e) ∙ given)
+      ap (λ (x : List ℕ). record { number = 0; place = 0; values = x }) h ∙ ap answerOf (ap playingOf (sym e) ∙ given)
 
   pub played-refused : (n i : ℕ) → a ≡ Played.Refused n i
-      → record { number = n; place = i; values = 0 ∷ 0 ∷ 0 ∷ 0 ∷ 0 ∷ 0 ∷ [] } ≡ playedOf p
-  unfolding playedOf playingOf
-  played-refused n i e = ap playedOf (ap playingOf (sym e) ∙ given)
+      → record { number = n; place = i; values = 0 ∷ 0 ∷ 0 ∷ 0 ∷ 0 ∷ 0 ∷ [] } ≡ answerOf p
+  unfolding answerOf playingOf
+  played-refused n i e = ap answerOf (ap playingOf (sym e) ∙ given)
 
 -- ---- reading a point
 pub read-with : (a : PointAnswer) (d : Display) (v w : ScreenValues) (p q : ℕ) (memory : List ℕ) → readingOf a ≡ reading memorySize d v p q memory → v ≡ w → readingOf a ≡ reading memorySize d w p q memory

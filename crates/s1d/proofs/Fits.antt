@@ -10,6 +10,7 @@ use borrow.Author.Tests.{eqb-true, leb-true, not-false}
 use Rattle.record.specs.Record.{recordsOf}
 use Rattle.record.specs.declared.Record.{Record}
 use Rattle.screen.specs.declared.ScreenValues.{ScreenValues}
+use Rattle.screen.specs.Narrow.{Narrow}
 use Rattle.screen.proofs.Fits.{EdgesFit, InFields, edges-say, values-fit}
 use Rattle.chip.specs.Register.{fits, screenAfter}
 use Rattle.chip.specs.Admit.{chipAfter}
@@ -22,7 +23,6 @@ use Rattle.command.specs.Task.{Task, screenIn}
 use Rattle.compiler.specs.Compile.{compiling}
 use Rattle.compiler.proofs.Accepted.{compiled-says}
 use Rattle.unit.specs.Draw.{Drawing, drawing}
-use Rattle.s1d.specs.Narrow.{Narrow}
 
 pub narrow : (v : ScreenValues) → InFields v → Narrow v
 narrow v f =

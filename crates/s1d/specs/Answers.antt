@@ -1,18 +1,14 @@
 -- The answers of the C library (include/s1d.h): the numbers of 01, "Refusal numbers", field by field.
 use Prim.Native.Nat.{ℕ}
 use mathlib.Core.List.{List}
-use lib.ListN.{getD}
-use Rattle.screen.specs.declared.ScreenValues.{ScreenValues}
 use Rattle.screen.specs.Values.{sixValues}
 use Rattle.command.specs.Task.{commandSize}
 use Rattle.compiler.specs.Compile.{Compiling}
 use Rattle.compiler.specs.Part.{partFrom, partSize}
-use Rattle.chip.specs.Play.{Playing}
 use Rattle.reader.specs.Read.{Reading}
 use Rattle.reader.specs.declared.Display.{Display}
 use Rattle.unit.specs.Draw.{Drawing}
 use Rattle.s1d.specs.declared.S1dCompiled.{S1dCompiled}
-use Rattle.s1d.specs.declared.S1dPlayed.{S1dPlayed}
 use Rattle.s1d.specs.declared.S1dPoint.{S1dPoint}
 use Rattle.s1d.specs.declared.S1dDrawn.{S1dDrawn}
 
@@ -30,23 +26,9 @@ compiledOf c list =
       «part_length» = partSize commandSize list c;
     }
 
--- playing's number, place and six values
-unfoldable pub playedOf : Playing → S1dPlayed
-playedOf p = record { number = p .number; place = p .place; values = sixValues (p .values) }
-
 -- the panel's settings from their numbers
 abbrev pub displayWith : ℕ → ℕ → ℕ → ℕ → ℕ → Display
 displayWith depth rotation flag width height = record { depth = depth; rotation = rotation; flag = flag; width = width; height = height }
-
--- the screen values from six numbers: main start, main offset, window start, window offset, X, Y
-abbrev pub valuesWith : List ℕ → ScreenValues
-valuesWith v =
-    record {
-      main = record { start = getD v 0 0; offset = getD v 1 0 };
-      window = record { start = getD v 2 0; offset = getD v 3 0 };
-      x = getD v 4 0;
-      y = getD v 5 0;
-    }
 
 -- the reader's number and colour
 unfoldable pub pointOf : Reading → S1dPoint

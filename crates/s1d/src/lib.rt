@@ -3,19 +3,18 @@ ghost use mathlib.Core.Path.{_≡_};
 ghost use lib.ListN.{length};
 ghost use Rattle.screen.specs.Screen.{memorySize};
 ghost use Rattle.command.specs.Task.{task};
-ghost use Rattle.screen.specs.Values.{sixValues};
+ghost use Rattle.screen.specs.Values.{valuesWith};
 ghost use Rattle.compiler.specs.Compile.{compiling, bufferAfter};
 ghost use Rattle.chip.specs.Play.{playing, played};
 ghost use Rattle.reader.specs.Read.{reading};
 ghost use Rattle.unit.specs.Draw.{drawing, streamDrawn, memoryDrawn};
-ghost use Rattle.s1d.specs.Answers.{compiledOf, playedOf, displayWith, valuesWith, pointOf, drawnOf};
-ghost use Rattle.s1d.specs.Narrow.{Narrow};
+ghost use Rattle.serial.specs.Serial.{answerOf};
+ghost use Rattle.s1d.specs.Answers.{compiledOf, displayWith, pointOf, drawnOf};
 use chip::Played;
 use compiler::Compiled;
 use reader::Display;
 use reader::PointAnswer;
-use screen::Origin;
-use screen::ScreenValues;
+use serial::Answer;
 use unit::Drawn;
 
 // What compiling gives back, and where the refused command stands in the list.
@@ -29,14 +28,6 @@ pub struct S1dCompiled {
     pub flag: u32,
     pub part_at: u64,
     pub part_length: u64,
-}
-
-// What playing gives back: the values are main start, main offset, window start, window offset, X and Y.
-#[repr(C)]
-pub struct S1dPlayed {
-    pub number: u32,
-    pub place: u64,
-    pub values: [u32; 6],
 }
 
 // What the point reader gives back.
@@ -92,59 +83,24 @@ pub extern "C" fn s1d_compile(
     }
 }
 
-// The six values in the header's order.
-fn six_values(v: ScreenValues) -> [u32; 6]
-    requires { ⌜ Narrow v ⌝ }
-    ensures { λ r. ⌜ r ≡ sixValues v ⌝ }
-{
-    let main = v.main;
-    let window = v.window;
-    [
-        main.start as u32,
-        main.offset as u32,
-        window.start as u32,
-        window.offset as u32,
-        v.x as u32,
-        v.y as u32,
-    ]
-}
-
 // Plays a stream over the display memory.
 #[no_mangle]
-pub extern "C" fn s1d_play(stream: &[u8], memory: &mut [u8]) -> S1dPlayed
-    ensures { λ r. ⌜ r ≡ playedOf (playing memorySize (now (stream .entry)) (now (memory .entry))) ⌝ }
+pub extern "C" fn s1d_play(stream: &[u8], memory: &mut [u8]) -> Answer
+    ensures { λ r. ⌜ r ≡ answerOf (playing memorySize (now (stream .entry)) (now (memory .entry))) ⌝ }
     ensures { λ r. ⌜ now (memory .exit) ≡ played memorySize (now (stream .entry)) (now (memory .entry)) ⌝ }
 {
     let answer = chip_code::play(stream, memory);
     match answer {
-        Played::Accepted(v) => S1dPlayed {
+        Played::Accepted(v) => Answer {
             number: 0,
             place: 0,
-            values: six_values(v),
+            values: screen_values::six_values(v),
         },
-        Played::Refused(fault, index) => S1dPlayed {
+        Played::Refused(fault, index) => Answer {
             number: fault,
             place: index,
             values: [0, 0, 0, 0, 0, 0],
         },
-    }
-}
-
-// The screen values from six numbers in the header's order.
-fn values_given(six: [u32; 6]) -> ScreenValues
-    ensures { λ r. ⌜ r ≡ valuesWith six ⌝ }
-{
-    ScreenValues {
-        main: Origin {
-            start: six[0] as u64,
-            offset: six[1] as u64,
-        },
-        window: Origin {
-            start: six[2] as u64,
-            offset: six[3] as u64,
-        },
-        x: six[4] as u64,
-        y: six[5] as u64,
     }
 }
 
@@ -170,7 +126,7 @@ pub extern "C" fn s1d_read_point(
         width,
         height,
     };
-    let v = values_given(*values);
+    let v = screen_values::values_given(*values);
     let answer = reader_code::read_point(d, v, p, q, memory);
     match answer {
         PointAnswer::Colour(colour) => S1dPoint {
@@ -200,7 +156,7 @@ pub extern "C" fn s1d_draw(
             number: 0,
             place: 0,
             length: size,
-            values: six_values(v),
+            values: screen_values::six_values(v),
         },
         Drawn::Refused(number, command) => S1dDrawn {
             number,

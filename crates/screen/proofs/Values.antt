@@ -2,14 +2,16 @@
 use Prim.Native.Nat.{ℕ}
 use mathlib.Core.Path.{_≡_, refl, ap}
 use mathlib.Core.Bool.{true, false}
-use mathlib.Core.List.{[], _∷_}
+use mathlib.Core.List.{List, [], _∷_}
 use native.Mathlib.Omega.{arith}
 use lib.Dec.{eqb}
+use lib.ListN.{length}
 use borrow.Author.Tests.{eq-eqb, ne-eqb}
 use Rattle.pixel.specs.Depth.{perDword}
 use Rattle.screen.specs.Screen.{viewWidth, viewHeight, mainImage, windowImage}
-use Rattle.screen.specs.Values.{windowX, windowY, originOf, valuesOf, sixValues}
+use Rattle.screen.specs.Values.{windowX, windowY, originOf, valuesOf, sixValues, valuesWith}
 use Rattle.screen.specs.declared.Screen.{Screen}
+use Rattle.screen.specs.declared.ScreenValues.{ScreenValues}
 
 pub main-value : (s : Screen) → valuesOf s .main ≡ originOf (s .rotation) (s .depth) (mainImage s)
 unfolding valuesOf
@@ -61,3 +63,17 @@ main-height s r e = ap (λ (t : ℕ). viewHeight t (s .width) (s .height)) e
 -- the six values stand in the stream's order
 pub six-order : (a b c d x y : ℕ) → sixValues (record { main = record { start = a; offset = b }; window = record { start = c; offset = d }; x = x; y = y }) ≡ a ∷ b ∷ c ∷ d ∷ x ∷ y ∷ []
 six-order a b c d x y = refl
+
+-- six numbers are the six of their values, and values are those of their six numbers
+pub values-back : (v : ScreenValues) → valuesWith (sixValues v) ≡ v
+values-back v = refl
+
+pub six-back : (l : List ℕ) → length l ≡ 6 → sixValues (valuesWith l) ≡ l
+six-back (a ∷ b ∷ c ∷ d ∷ x ∷ y ∷ []) e = refl
+six-back [] e = absurd (omega arith)
+six-back (a ∷ []) e = absurd (omega arith)
+six-back (a ∷ b ∷ []) e = absurd (omega arith)
+six-back (a ∷ b ∷ c ∷ []) e = absurd (omega arith)
+six-back (a ∷ b ∷ c ∷ d ∷ []) e = absurd (omega arith)
+six-back (a ∷ b ∷ c ∷ d ∷ x ∷ []) e = absurd (omega arith)
+six-back (a ∷ b ∷ c ∷ d ∷ x ∷ y ∷ z ∷ l) e = absurd (omega arith)

@@ -3,6 +3,7 @@ use Prim.Native.Nat.{ℕ, _+_, _-_, _*_, _/_}
 use mathlib.Core.List.{List, [], _∷_}
 use mathlib.Core.Bool.{cond}
 use lib.Dec.{eqb}
+use lib.ListN.{getD}
 use Rattle.pixel.specs.Depth.{perDword}
 use Rattle.screen.specs.Image.{byRotation, startOf, offsetOf}
 use Rattle.screen.specs.Screen.{mainImage, windowImage}
@@ -51,3 +52,13 @@ valuesOf s =
 -- the six in the stream's order: main start, main offset, window start, window offset, X, Y
 abbrev pub sixValues : ScreenValues → List ℕ
 sixValues v = v .main .start ∷ v .main .offset ∷ v .window .start ∷ v .window .offset ∷ v .x ∷ v .y ∷ []
+
+-- the screen values from six numbers in that order
+abbrev pub valuesWith : List ℕ → ScreenValues
+valuesWith v =
+    record {
+      main = record { start = getD v 0 0; offset = getD v 1 0 };
+      window = record { start = getD v 2 0; offset = getD v 3 0 };
+      x = getD v 4 0;
+      y = getD v 5 0;
+    }

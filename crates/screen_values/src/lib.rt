@@ -2,7 +2,8 @@
 ghost use mathlib.Core.Path.{_≡_};
 ghost use Prim.Native.Nat.{_+_, _-_, _/_, _<_};
 ghost use Rattle.screen.specs.Image.{startOf};
-ghost use Rattle.screen.specs.Values.{windowX, windowY, originOf, valuesOf, edges};
+ghost use Rattle.screen.specs.Values.{windowX, windowY, originOf, valuesOf, edges, sixValues, valuesWith};
+ghost use Rattle.screen.specs.Narrow.{Narrow};
 use screen::Image;
 use screen::Origin;
 use screen::Screen;
@@ -132,4 +133,39 @@ pub fn screen_values(s: Screen) -> ScreenValues
     let x = window_x(s.rotation, k, s.width, w);
     let y = window_y(s.rotation, k, s.height, w);
     ScreenValues { main, window, x, y }
+}
+
+// The six values in the stream's order.
+pub fn six_values(v: ScreenValues) -> [u32; 6]
+    requires { ⌜ Narrow v ⌝ }
+    ensures { λ r. ⌜ r ≡ sixValues v ⌝ }
+{
+    let main = v.main;
+    let window = v.window;
+    [
+        main.start as u32,
+        main.offset as u32,
+        window.start as u32,
+        window.offset as u32,
+        v.x as u32,
+        v.y as u32,
+    ]
+}
+
+// The screen values from six numbers in that order.
+pub fn values_given(six: [u32; 6]) -> ScreenValues
+    ensures { λ r. ⌜ r ≡ valuesWith six ⌝ }
+{
+    ScreenValues {
+        main: Origin {
+            start: six[0] as u64,
+            offset: six[1] as u64,
+        },
+        window: Origin {
+            start: six[2] as u64,
+            offset: six[3] as u64,
+        },
+        x: six[4] as u64,
+        y: six[5] as u64,
+    }
 }

@@ -1,6 +1,6 @@
--- Screen values that fit 32 bits. Only a private function's contract cites it.
+-- Screen values that fit 32 bits. Only contracts of inner functions cite it.
 use Prim.Native.Nat.{_<_, _^_}
 use Rattle.screen.specs.declared.ScreenValues.{ScreenValues}
 
 pub record Narrow (v : ScreenValues) : Type 0 where
   pub main-start : v .main .start < 2 ^ 32

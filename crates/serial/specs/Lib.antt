@@ -1,0 +1,4 @@
+pub mod State
+pub mod Serial
+pub mod Cutting
+pub mod Taking
