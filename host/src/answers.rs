@@ -21,6 +21,27 @@ pub struct Played {
     pub values: [u32; 6],
 }
 
+/// The state of a player that is fed in blocks. Any numbers are a state.
+#[repr(C)]
+#[derive(Clone, Copy, Debug, Default, PartialEq, Eq)]
+pub struct Player {
+    /// Registers as last written, in rising number: the header's `values`, then its `blit`.
+    pub registers: [u32; 15],
+    /// Not 0: a data word is due, and these are its line and its index in the line.
+    pub due: u32,
+    pub line: u16,
+    pub word: u16,
+    /// The bytes of the half-read record, and how many they are; above 7 means 7.
+    pub half: [u8; 7],
+    pub held: u8,
+    /// Records taken, up to 2^64 - 1.
+    pub count: u64,
+    /// Not 0: an answer is kept, and these are its number and place.
+    pub kept: u32,
+    pub number: u32,
+    pub place: u64,
+}
+
 #[repr(C)]
 #[derive(Clone, Copy, Debug, Default, PartialEq, Eq)]
 pub struct Point {

@@ -1,6 +1,6 @@
-//! Random inputs, from a seed: records, lists, words, streams and points, whole and damaged.
+//! Random inputs, from a seed: records, lists, words, streams, players and points, whole and damaged.
 
-use crate::answers::Settings;
+use crate::answers::{Player, Settings};
 
 const MEMORY: u64 = 262_144;
 
@@ -277,7 +277,8 @@ const SCREEN_REGISTERS: [(u32, u32); 6] = [
     (0x58, 0x3FF_03FF),
     (0x5C, 0x3FF_03FF),
 ];
-const NUMBERS: [u32; 22] = [
+/// The registers, then other numbers of a record.
+pub const NUMBERS: [u32; 22] = [
     0x40, 0x44, 0x50, 0x54, 0x58, 0x5C, 0x8000, 0x8008, 0x800C, 0x8010, 0x8014, 0x8018, 0x801C,
     0x8020, 0x8024, 0x10000, 0x10000, 0, 0x10, 0x8004, 0x8028, 0x10001,
 ];
@@ -420,6 +421,75 @@ pub fn mutate(rng: &mut Rng, stream: &mut Vec<u8>) {
             stream.splice(at..at, record);
         }
     }
+}
+
+/// A player's state that mostly no stream leads to, and a stream that goes on from there.
+pub fn player(rng: &mut Rng) -> (Player, Vec<u8>) {
+    let mut player = Player::default();
+    for register in &mut player.registers {
+        *register = match rng.below(6) {
+            0 | 1 => 0,
+            2 | 3 => rng.below(6) as u32,
+            4 => rng.any() as u32 >> rng.below(20),
+            _ => rng.any() as u32,
+        };
+    }
+    // Often a small write into the memory, or near its end.
+    if rng.one_in(2) {
+        player.registers[9] = rng.pick(&[0, MEMORY - 6]) as u32 + rng.below(6) as u32;
+        player.registers[10] = rng.below(6) as u32;
+    }
+    let [.., width, height, _, _] = player.registers.map(|register| u64::from(register % 1024 + 1));
+    let words = if player.registers[6] >> 18 & 1 == 1 { width } else { width.div_ceil(2) };
+    let mut at = |end: u64| match rng.below(8) {
+        0 => rng.any() as u16,
+        1 => end as u16,
+        2 | 3 => rng.below(end) as u16,
+        _ => (end - 1 - rng.below(end.min(4))) as u16,
+    };
+    (player.line, player.word) = (at(height), at(words));
+    player.due = rng.pick(&[0, 0, 1, 1, 1, 2, 0x100, 0x8000_0000]);
+    player.count = match rng.below(4) {
+        0 => rng.below(100),
+        1 => rng.any(),
+        _ => u64::MAX - rng.below(40),
+    };
+    player.kept = if rng.one_in(16) { rng.any() as u32 >> rng.below(32) } else { 0 };
+    player.number = if rng.one_in(3) { rng.any() as u32 } else { rng.below(34) as u32 };
+    player.place = rng.any();
+
+    // As many words as are due, or some; then blits, or any records.
+    let due = words.saturating_sub(player.word.into()).max(1)
+        + height.saturating_sub(u64::from(player.line) + 1) * words;
+    let count = match player.due {
+        0 if rng.one_in(2) => 0,
+        _ if due <= 100 && !rng.one_in(4) => due,
+        _ => rng.below(40),
+    };
+    let word = |rng: &mut Rng| u64::from(0x10000u32) | u64::from(rng.any() as u16) << 32;
+    let mut stream: Vec<u8> = (0..count).flat_map(|_| word(rng).to_le_bytes()).collect();
+    if rng.one_in(3) {
+        for _ in 0..rng.below(30) {
+            let value = if rng.one_in(2) { rng.below(4) } else { rng.near(0) };
+            let record = u64::from(rng.pick(&NUMBERS)) | value << 32;
+            stream.extend(record.to_le_bytes());
+        }
+    } else {
+        stream.extend(foreign(rng));
+    }
+    if rng.one_in(4) {
+        mutate(rng, &mut stream);
+    }
+
+    // The front of the stream is held already, where it is not just any bytes.
+    player.held = if rng.one_in(4) { rng.any() as u8 } else { rng.below(8) as u8 };
+    let held = usize::from(player.held.min(7));
+    player.half = rng.any().to_le_bytes()[..7].try_into().unwrap();
+    if held <= stream.len() && !rng.one_in(8) {
+        let bytes: Vec<u8> = stream.drain(..held).collect();
+        player.half[..held].copy_from_slice(&bytes);
+    }
+    (player, stream)
 }
 
 /// Settings, values and a point, mostly accepted.

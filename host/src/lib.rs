@@ -2,6 +2,7 @@
 //!
 //! - `reference`: compiling, playing and the point reader, written for speed; what the library is
 //!   compared with and timed against.
+//! - `serial`: playing in blocks, request a) of paper 02, to the same ends.
 //! - `sheet`: the plain sheet, pixel by pixel from the commands, with no register or direction.
 //! - `literal`: an accepted stream played one pixel at a time, in the direction named.
 //! - `unit`: the library, where build.rs found it.
@@ -13,12 +14,16 @@ pub mod answers;
 pub mod inputs;
 pub mod literal;
 pub mod reference;
+pub mod serial;
 pub mod sheet;
 #[cfg(unit)]
 pub mod unit;
 /// Stands in where the library is not there: the reference against itself.
 #[cfg(not(unit))]
-pub use reference as unit;
+pub mod unit {
+    pub use crate::reference::{compile, draw, play, read_point};
+    pub use crate::serial::{end, feed, new_player};
+}
 
 /// Whether the library is linked.
 pub const LINKED: bool = cfg!(unit);

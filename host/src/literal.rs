@@ -1,9 +1,10 @@
-//! An accepted stream played as paper 01 words it: pixels one by one, line by line, in the direction
-//! named.
+//! Records that playing takes, played as paper 01 words it: pixels one by one, line by line, in the
+//! direction named.
 
 use std::collections::HashMap;
 
-/// Plays a stream that playing accepts, over a memory of 262,144 bytes.
+/// Plays records that playing takes, over a memory of 262,144 bytes. The last write may have words
+/// due.
 pub fn play(stream: &[u8], memory: &mut [u8]) {
     let mut registers: HashMap<u32, i64> = HashMap::new();
     let mut records = stream.chunks(8).map(|record| {
@@ -28,7 +29,8 @@ pub fn play(stream: &[u8], memory: &mut [u8]) {
             for i in 0..width {
                 // A word has one pixel at depth 16, two at 8.
                 if operation == 0 && (pixel == 2 || i % 2 == 0) {
-                    word = (records.next().unwrap().1 as u16).to_le_bytes();
+                    let Some((_, data)) = records.next() else { return };
+                    word = (data as u16).to_le_bytes();
                 }
                 for b in 0..pixel {
                     let away = direction * (j * stride + i * pixel) + b;

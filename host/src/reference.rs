@@ -1,4 +1,4 @@
-//! Paper 01 in plain Rust: compiling, playing, the point reader.
+//! Paper 01 in plain Rust: compiling, playing, the point reader. Playing in blocks is in `serial`.
 //!
 //! The four public functions are not inlined, so that timing them beside the library is fair.
 
@@ -370,7 +370,10 @@ const FIELDS: [u32; 15] = [
     0xFFFF,     // 8024h foreground
 ];
 
-const CONTROL: usize = 6;
+pub(crate) const CONTROL: usize = 6;
+
+/// The registers as last written, in the order of `slot`.
+pub(crate) type Registers = [u32; 15];
 
 fn slot(number: u32) -> Option<usize> {
     Some(match number {
@@ -394,34 +397,48 @@ fn slot(number: u32) -> Option<usize> {
 }
 
 #[derive(Clone, Copy, PartialEq, Eq)]
-enum Kind {
+pub(crate) enum Kind {
     Fill,
     Forward,
     Backward,
     Write,
 }
 
-/// A blit at its start.
-struct Blit {
-    kind: Kind,
-    code: u32,
+/// A blit, as the registers have it.
+pub(crate) struct Blit {
+    pub kind: Kind,
+    pub code: u32,
     source: usize,
-    destination: usize,
+    pub destination: usize,
     /// Bytes from line to line.
-    stride: usize,
+    pub stride: usize,
     /// Bytes of a pixel and of a line's pixels.
-    pixel: usize,
-    line: usize,
-    lines: usize,
+    pub pixel: usize,
+    pub line: usize,
+    pub lines: usize,
     colour: u16,
-    /// Where its data records begin in the stream.
-    data_at: usize,
 }
 
 impl Blit {
-    /// The blit that the registers start, or refusal 21 or 22.
-    fn start(registers: &[u32; 15], data_at: usize) -> Result<Blit, u32> {
-        let register = |i: usize| registers[i] as usize;
+    /// Each register is read by the bits of its field alone.
+    pub fn new(kind: Kind, registers: &Registers, control: u32) -> Blit {
+        let register = |i: usize| (registers[i] & FIELDS[i]) as usize;
+        let pixel = if control >> 18 & 1 == 1 { 2 } else { 1 };
+        Blit {
+            kind,
+            code: registers[7] >> 16 & 0xF,
+            source: register(8),
+            destination: register(9),
+            stride: 2 * register(10),
+            pixel,
+            line: (register(11) + 1) * pixel,
+            lines: register(12) + 1,
+            colour: registers[14] as u16,
+        }
+    }
+
+    /// The blit that a write of `control` to 8000h starts, or refusal 21 or 22.
+    fn start(registers: &Registers, control: u32) -> Result<Blit, u32> {
         let kind = match registers[7] & 0xF {
             0 => Kind::Write,
             2 => Kind::Forward,
@@ -429,8 +446,8 @@ impl Blit {
             0xC => Kind::Fill,
             _ => return Err(21),
         };
-        let pixel = 1 + (register(CONTROL) >> 18);
-        let (source, destination) = (register(8), register(9));
+        let blit = Blit::new(kind, registers, control);
+        let Blit { source, destination, pixel, .. } = blit;
         let moves = matches!(kind, Kind::Forward | Kind::Backward);
         if destination % pixel != 0
             || moves && source % pixel != 0
@@ -438,18 +455,6 @@ impl Blit {
         {
             return Err(21);
         }
-        let blit = Blit {
-            kind,
-            code: registers[7] >> 16,
-            source,
-            destination,
-            stride: 2 * register(10),
-            pixel,
-            line: (register(11) + 1) * pixel,
-            lines: register(12) + 1,
-            colour: registers[14] as u16,
-            data_at,
-        };
         if !blit.inside(destination) || moves && !blit.inside(source) {
             return Err(22);
         }
@@ -466,7 +471,7 @@ impl Blit {
     }
 
     /// Data words of a line: at depth 8 two pixels each, at 16 one.
-    fn words(&self) -> usize {
+    pub fn words(&self) -> usize {
         self.line.div_ceil(2)
     }
 
@@ -478,10 +483,10 @@ impl Blit {
         }
     }
 
-    fn run(&self, stream: &[u8], memory: &mut [u8]) {
+    /// Draws the blit; a write's words are those of the data records, which begin with its own.
+    pub fn run(&self, mut data: &[u8], memory: &mut [u8]) {
         // One line's source, where it must be held: 1,024 pixels of two bytes.
         let mut held = [0; 2048];
-        let mut data = &stream[self.data_at..];
         for j in 0..self.lines {
             let to = self.line_at(self.destination, j);
             match self.kind {
@@ -540,7 +545,7 @@ impl Blit {
 /// Combines a line with its source under a raster code (002, table 9-2). A code works bit by bit, so
 /// bytes do at both depths.
 #[inline]
-fn combine(code: u32, line: &mut [u8], source: &[u8]) {
+pub(crate) fn combine(code: u32, line: &mut [u8], source: &[u8]) {
     #[inline(always)]
     fn each(line: &mut [u8], source: &[u8], raster: impl Fn(u8, u8) -> u8) {
         for (d, &s) in line.iter_mut().zip(source) {
@@ -567,53 +572,66 @@ fn combine(code: u32, line: &mut [u8], source: &[u8]) {
     }
 }
 
-/// The last six screen values and the blits of a stream, or refusal 19 to 23.
-fn check(stream: &[u8]) -> Result<([u32; 6], Vec<Blit>), Refusal> {
+/// What a record that is no due data word writes: a register's slot, its value, and the blit that it
+/// starts; or refusal 20 to 23.
+pub(crate) fn admit(
+    record: &[u8],
+    registers: &Registers,
+    due: bool,
+) -> Result<(usize, u32, Option<Blit>), u32> {
+    let (number, value) = (u32_at(record, 0), u32_at(record, 4));
+    if number == DATA {
+        return Err(if value > 0xFFFF { 21 } else { 23 });
+    }
+    let slot = slot(number).ok_or(20u32)?;
+    if value & !FIELDS[slot] != 0 {
+        return Err(21);
+    }
+    let starts = slot == CONTROL && value & 1 == 1;
+    let blit = if starts { Some(Blit::start(registers, value)?) } else { None };
+    if due {
+        return Err(23);
+    }
+    Ok((slot, value, blit))
+}
+
+/// How many data words stand at the front of some records, `most` at most.
+pub(crate) fn words_in(records: &[u8], most: usize) -> usize {
+    let good = |record: &&[u8]| u32_at(record, 0) == DATA && u32_at(record, 4) <= 0xFFFF;
+    records.chunks_exact(8).take(most).take_while(good).count()
+}
+
+/// The last six screen values and the blits of a stream, each with the place of its data records;
+/// or refusal 19 to 23.
+fn check(stream: &[u8]) -> Result<([u32; 6], Vec<(Blit, usize)>), Refusal> {
     if stream.len() % 8 != 0 {
         return Err((19, 0));
     }
     let mut registers = [0; 15];
     let mut blits = Vec::new();
     let mut due = 0;
-    let mut records = stream.chunks_exact(8);
-    let count = records.len();
+    let mut at = 0;
     loop {
         // Due data words are taken as far as they go.
-        let good = |record: &&[u8]| u32_at(record, 0) == DATA && u32_at(record, 4) <= 0xFFFF;
-        let taken = records.clone().take(due).take_while(good).count();
+        let taken = words_in(&stream[at..], due);
         due -= taken;
-        if taken > 0 {
-            records.nth(taken - 1);
+        at += 8 * taken;
+        if at == stream.len() {
+            break;
         }
-        let i = count - records.len();
-        let refuse = |number: u32| (number, i as u64);
-        let Some(record) = records.next() else { break };
-        let (number, value) = (u32_at(record, 0), u32_at(record, 4));
-        if number == DATA {
-            return Err(refuse(if value > 0xFFFF { 21 } else { 23 }));
-        }
-        let slot = slot(number).ok_or(refuse(20))?;
-        if value & !FIELDS[slot] != 0 {
-            return Err(refuse(21));
-        }
+        let (slot, value, started) = admit(&stream[at..at + 8], &registers, due > 0)
+            .map_err(|number| (number, at as u64 / 8))?;
         registers[slot] = value;
-        let started = if slot == CONTROL && value & 1 == 1 {
-            Some(Blit::start(&registers, 8 * (i + 1)).map_err(refuse)?)
-        } else {
-            None
-        };
-        if due > 0 {
-            return Err(refuse(23));
-        }
+        at += 8;
         if let Some(blit) = started {
             if blit.kind == Kind::Write {
                 due = blit.words() * blit.lines;
             }
-            blits.push(blit);
+            blits.push((blit, at));
         }
     }
     if due > 0 {
-        return Err((23, count as u64));
+        return Err((23, at as u64 / 8));
     }
     let [a, b, c, d, e, f, ..] = registers;
     Ok(([a, b, c, d, e, f], blits))
@@ -625,8 +643,8 @@ pub fn play(stream: &[u8], memory: &mut [u8]) -> Played {
     let checked = if memory.len() != MEMORY { Err((18, 0)) } else { check(stream) };
     match checked {
         Ok((values, blits)) => {
-            for blit in blits {
-                blit.run(stream, memory);
+            for (blit, data_at) in blits {
+                blit.run(&stream[data_at..], memory);
             }
             Played { values, ..Played::default() }
         }

@@ -1,6 +1,6 @@
 //! The proved library, by the functions of include/s1d.h.
 
-use crate::answers::{Compiled, Drawn, Played, Point, Settings};
+use crate::answers::{Compiled, Drawn, Played, Player, Point, Settings};
 
 extern "C" {
     fn s1d_compile(
@@ -20,6 +20,18 @@ extern "C" {
         memory: *mut u8,
         memory_length: usize,
     ) -> Played;
+
+    fn s1d_new_player() -> Player;
+
+    fn s1d_feed(
+        player: *mut Player,
+        block: *const u8,
+        block_length: usize,
+        memory: *mut u8,
+        memory_length: usize,
+    ) -> Played;
+
+    fn s1d_end(player: *mut Player) -> Played;
 
     fn s1d_read_point(
         depth: u32,
@@ -68,6 +80,18 @@ pub fn compile(screen: &[u8], list: &[u8], words: &[u16], stream: &mut [u8]) -> 
 
 pub fn play(stream: &[u8], memory: &mut [u8]) -> Played {
     unsafe { s1d_play(stream.as_ptr(), stream.len(), memory.as_mut_ptr(), memory.len()) }
+}
+
+pub fn new_player() -> Player {
+    unsafe { s1d_new_player() }
+}
+
+pub fn feed(player: &mut Player, block: &[u8], memory: &mut [u8]) -> Played {
+    unsafe { s1d_feed(player, block.as_ptr(), block.len(), memory.as_mut_ptr(), memory.len()) }
+}
+
+pub fn end(player: &mut Player) -> Played {
+    unsafe { s1d_end(player) }
 }
 
 pub fn read_point(screen: &Settings, p: u32, q: u32, memory: &[u8]) -> Point {

@@ -6,3 +6,4 @@ pub mod Plays
 pub mod Commands
 pub mod Cases
 pub mod Starts
+pub mod Lengths

@@ -56,3 +56,8 @@ split a n false e = inr (ltb-false a n e)
 
 pub below-or-not : (a n : ℕ) → (a < n) ⊎ (n ≤ a)
 below-or-not a n = split a n (ltb a n) refl
+
+-- what holds of both ways holds of the one that a test takes
+pub both-ways : {A : Type 0} (P : A → Type 0) (t : Bool) (a b : A) → (t ≡ true → P a) → (t ≡ false → P b) → P (cond t a b)
+both-ways P true a b f g = f refl
+both-ways P false a b f g = g refl

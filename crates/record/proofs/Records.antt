@@ -76,6 +76,13 @@ module _ (a b c d e f g h : ℕ) (l : List ℕ) where
   records-past i zero = refl
   records-past i (suc n) = λ t. record-past i t ∷ records-past (suc i) n t
 
+  -- eight bytes are the first record, and the others are those of what is behind them
+  pub records-cons : recordsOf eight ≡ recordAt eight 0 ∷ recordsOf l
+  unfolding recordsFrom recordsOf
+  records-cons =
+      let e : length eight / 8 ≡ suc (length l / 8) = omega arith in
+      ap (recordsFrom eight 0) e ∙ (λ t. recordAt eight 0 ∷ records-past 0 (length l / 8) t)
+
 -- the first record of a stream
 record-front : (r : Record) (rs : List Record) → r .number < 2 ^ 32 → r .value < 2 ^ 32 → recordAt (streamBytes (r ∷ rs)) 0 ≡ r
 unfolding recordAt streamBytes recordBytes

@@ -1,13 +1,14 @@
 -- The screen values that playing and drawing give lie in their fields, and so fit 32 bits.
 use Prim.Native.Nat.{ℕ, suc, _/_, _%_, _<_, _≤_}
-use mathlib.Core.Path.{_≡_, refl, sym, subst}
+use mathlib.Core.Path.{_≡_, sym, subst}
 use mathlib.Core.List.{List, [], _∷_}
-use mathlib.Core.Bool.{Bool, true, false, not, cond}
+use mathlib.Core.Bool.{true, not, cond}
 use native.Mathlib.Omega.{arith}
 use lib.Dec.{eqb}
 use lib.ListN.{length}
 use borrow.Author.Tests.{eqb-true, leb-true, not-false}
 use Rattle.record.specs.Record.{recordsOf}
+use Rattle.record.proofs.Choice.{both-ways}
 use Rattle.record.specs.declared.Record.{Record}
 use Rattle.screen.specs.declared.ScreenValues.{ScreenValues}
 use Rattle.screen.specs.Narrow.{Narrow}
@@ -35,11 +36,6 @@ narrow v f =
       y = omega (arith, f .y .end);
     }
 
--- what holds of both ways holds of the one that a test takes
-by-test : {A : Type 0} (P : A → Type 0) (t : Bool) (a b : A) → (t ≡ true → P a) → (t ≡ false → P b) → P (cond t a b)
-by-test P true a b f g = f refl
-by-test P false a b f g = g refl
-
 pub nothing-fits : InFields noValues
 nothing-fits =
     record {
@@ -52,7 +48,7 @@ nothing-fits =
 -- ---- one record
 -- a register that is written, or kept
 written : (P : ℕ → Type 0) (n k v old : ℕ) → fits n v ≡ true → (fits k v ≡ true → P v) → P old → P (cond (eqb n k) v old)
-written P n k v old h f g = by-test P (eqb n k) v old (λ e. f (subst (λ (x : ℕ). fits x v ≡ true) (eqb-true n k e) h)) (λ e. g)
+written P n k v old h f g = both-ways P (eqb n k) v old (λ e. f (subst (λ (x : ℕ). fits x v ≡ true) (eqb-true n k e) h)) (λ e. g)
 
 after-fits : (s : ScreenValues) (n v : ℕ) → InFields s → fits n v ≡ true → InFields (screenAfter s n v)
 unfolding screenAfter fits
@@ -92,14 +88,14 @@ Fine p = InFields (p .values)
 ending-fits : (r : Run) (n : ℕ) → (r .number ≡ 0 → InFields (r .chip .screen)) → Fine (ending r n)
 unfolding ending
 ending-fits r n f =
-    by-test Fine (not (eqb (r .number) 0)) _ _ (λ t. nothing-fits)
-    (λ t. by-test Fine (r .chip .due .any) _ _ (λ u. nothing-fits) (λ u. f (eqb-true (r .number) 0 (not-false _ t))))
+    both-ways Fine (not (eqb (r .number) 0)) _ _ (λ t. nothing-fits)
+    (λ t. both-ways Fine (r .chip .due .any) _ _ (λ u. nothing-fits) (λ u. f (eqb-true (r .number) 0 (not-false _ t))))
 
 pub playing-fits : (m : ℕ) (stream memory : List ℕ) → InFields (playing m stream memory .values)
 unfolding playing
 playing-fits m stream memory =
-    by-test Fine (not (eqb (length memory) m)) _ _ (λ t. nothing-fits)
-    (λ t. by-test Fine (not (eqb (length stream % 8) 0)) _ _ (λ u. nothing-fits)
+    both-ways Fine (not (eqb (length memory) m)) _ _ (λ t. nothing-fits)
+    (λ t. both-ways Fine (not (eqb (length stream % 8) 0)) _ _ (λ u. nothing-fits)
     (λ u. ending-fits (run m newChip 0 (recordsOf stream)) (length stream / 8) (run-fits m newChip 0 (recordsOf stream) new-fits)))
 
 -- ---- drawing
@@ -109,8 +105,8 @@ FineDrawn d = InFields (d .values)
 pub drawing-fits : (m : ℕ) → m ≤ 262144 → (t : Task) (room : ℕ) (memory : List ℕ) → InFields (drawing m t room memory .values)
 unfolding drawing
 drawing-fits m small t room memory =
-    by-test FineDrawn (not (eqb (length memory) m)) _ _ (λ e. nothing-fits)
-    (λ e. by-test FineDrawn (eqb (compiling m t room .number) 0) _ _
+    both-ways FineDrawn (not (eqb (length memory) m)) _ _ (λ e. nothing-fits)
+    (λ e. both-ways FineDrawn (eqb (compiling m t room .number) 0) _ _
     (λ u.
     let a = compiled-says m t room (eqb-true _ 0 u) .task in
     values-fit m (screenIn t) small (a .fields) (a .flag))

@@ -1,5 +1,5 @@
 //! Compares the library with the reference on random inputs, and the reference with the plain sheet
-//! and with pixel-by-pixel playing.
+//! and with pixel-by-pixel playing; the player that is fed in blocks also with the one that is not.
 //!
 //!     compare [--reference-only] [COUNT [SEED [FIRST]]]
 //!
@@ -11,16 +11,27 @@ use std::fmt::{Debug, Write};
 use std::process::ExitCode;
 use std::time::Instant;
 
-use host::answers::Settings;
+use host::answers::{Played, Player, Settings};
 use host::inputs::{self, Drawing, Rng};
 use host::reference::MEMORY;
+use host::serial::{self, BLOCK};
 use host::{literal, reference, sheet, unit, LINKED};
 
-const FUNCTIONS: [&str; 4] = ["compile", "play", "point", "draw"];
+const FUNCTIONS: [&str; 6] = ["compile", "play", "point", "draw", "feed", "end"];
 const COMPILE: usize = 0;
 const PLAY: usize = 1;
 const POINT: usize = 2;
 const DRAW: usize = 3;
+const FEED: usize = 4;
+const END: usize = 5;
+
+/// The highest number of a refusal, and those that there are not.
+const HIGHEST: usize = 32;
+const FREE: std::ops::Range<usize> = 26..32;
+
+/// What `feed` and `end` must have given, repeated answers among it.
+const FED: [(usize, &[usize]); 2] =
+    [(FEED, &[0, 18, 19, 20, 21, 22, 23, 32]), (END, &[0, 19, 20, 21, 22, 23])];
 
 /// A difference, in words and with the input.
 type Checked = Result<(), String>;
@@ -34,7 +45,14 @@ struct Bench {
     /// A third memory, of the sheet or of pixel-by-pixel playing.
     third: Vec<u8>,
     /// How often each function gave each number.
-    seen: [[u64; 26]; 4],
+    seen: [[u64; HIGHEST + 1]; FUNCTIONS.len()],
+}
+
+/// One call of a player: the block's place in its bytes, and the length of the memory.
+#[derive(Clone, Copy, Debug)]
+enum Call {
+    Block { at: usize, length: usize, memory: usize },
+    End,
 }
 
 fn hex(bytes: &[u8]) -> String {
@@ -80,6 +98,32 @@ fn drawing_text(drawing: &Drawing) -> String {
     )
 }
 
+/// A stream, compiled or foreign, whole or changed.
+fn any_stream(rng: &mut Rng) -> Vec<u8> {
+    let mut stream = if rng.one_in(3) {
+        let Drawing { screen, list, words, room } = inputs::accepted(rng);
+        let mut stream = vec![0; room];
+        let answer = reference::compile(&screen, &list, &words, &mut stream);
+        stream.truncate(answer.length as usize);
+        stream
+    } else {
+        inputs::foreign(rng)
+    };
+    if rng.one_in(2) {
+        for _ in 0..rng.pick(&[1, 1, 1, 2, 5]) {
+            inputs::mutate(rng, &mut stream);
+        }
+    }
+    stream
+}
+
+fn serial_text(begun: &Player, bytes: &[u8], calls: &[Call], pool_at: usize) -> String {
+    format!(
+        "  {begun:?}\n  bytes: {}\n  calls: {calls:?}\n  memory: pool from {pool_at}",
+        hex(bytes)
+    )
+}
+
 impl Bench {
     fn new(seed: u64) -> Bench {
         let mut rng = Rng::new(seed, u64::MAX);
@@ -90,7 +134,7 @@ impl Bench {
             memory: Default::default(),
             stream: Default::default(),
             third: Vec::new(),
-            seen: [[0; 26]; 4],
+            seen: [[0; HIGHEST + 1]; FUNCTIONS.len()],
         }
     }
 
@@ -246,24 +290,178 @@ impl Bench {
 
     /// One stream, compiled or foreign, whole or changed.
     fn stream(&mut self, rng: &mut Rng) -> Checked {
-        let mut stream = if rng.one_in(3) {
-            let Drawing { screen, list, words, room } = inputs::accepted(rng);
-            let mut stream = vec![0; room];
-            let answer = reference::compile(&screen, &list, &words, &mut stream);
-            stream.truncate(answer.length as usize);
-            stream
-        } else {
-            inputs::foreign(rng)
-        };
-        if rng.one_in(2) {
-            for _ in 0..rng.pick(&[1, 1, 1, 2, 5]) {
-                inputs::mutate(rng, &mut stream);
-            }
-        }
-        self.stream[0] = stream;
+        self.stream[0] = any_stream(rng);
         let at = self.prepare_memory(rng);
         self.play(at)?;
         Ok(())
+    }
+
+    /// One stream, fed in blocks to a new player or to one in any state, with calls that are refused
+    /// among the blocks and with calls after the last answer.
+    fn serial(&mut self, rng: &mut Rng) -> Checked {
+        same("new player", serial::new_player(), unit::new_player(), String::new)?;
+        let new = !rng.one_in(3);
+        let (begun, stream) = match new {
+            true => (serial::new_player(), any_stream(rng)),
+            false => inputs::player(rng),
+        };
+        // A byte more than a memory, for one that is too long.
+        let pool_at = rng.below(MEMORY as u64) as usize;
+        for memory in &mut self.memory {
+            memory.clear();
+            memory.extend_from_slice(&self.pool[pool_at..pool_at + MEMORY + 1]);
+        }
+        // Past the stream come other bytes, for blocks that are too long or too late.
+        let mut bytes = stream.clone();
+        bytes.extend_from_slice(&self.pool[..200]);
+
+        let largest = match rng.below(8) {
+            0 => rng.pick(&[1, 3, 7, 8, 9]),
+            1 | 2 => rng.between(1, BLOCK as u64),
+            _ => BLOCK as u64,
+        };
+        let largest = if stream.len() > 20_000 { BLOCK as u64 } else { largest };
+        let whole_blocks = rng.one_in(3);
+        let odd_calls = rng.pick(&[8, 40, 400]);
+        let early_ends = rng.pick(&[20, 2000]);
+        let mut late = rng.below(5);
+        let mut players = [begun; 2];
+        let mut fed = 0;
+        let mut calls = Vec::new();
+        loop {
+            let kept = players[0].kept != 0;
+            if kept && late == 0 {
+                break;
+            }
+            late -= u64::from(kept);
+            let next = match (stream.len() - fed) as u64 {
+                left if whole_blocks => left.min(largest),
+                left => left.min(rng.below(largest + 1)),
+            };
+            let mut call = Call::Block { at: fed, length: next as usize, memory: MEMORY };
+            if rng.one_in(odd_calls) || kept {
+                let Call::Block { length, memory, .. } = &mut call else { unreachable!() };
+                let odd = rng.between(u64::from(!kept), 3);
+                if odd & 1 == 1 {
+                    *length = rng.pick(&[BLOCK + 1, BLOCK + 2, BLOCK + 8, 2 * BLOCK, 200]);
+                }
+                if odd & 2 == 2 {
+                    *memory = rng.pick(&[0, 1, 100_000, MEMORY - 1, MEMORY + 1]);
+                }
+            }
+            if fed == stream.len() && rng.one_in(2) || rng.one_in(if kept { 2 } else { early_ends })
+            {
+                call = Call::End;
+            }
+            calls.push(call);
+            let input = || serial_text(&begun, &bytes, &calls, pool_at);
+            let look = stream.len() <= 2_000 || rng.one_in(64);
+            let answer = self.call(call, &bytes, &mut players, look, &input)?;
+            if let (Call::Block { length, .. }, false, 0 | 20..=23) = (call, kept, answer.number) {
+                fed += length;
+            }
+        }
+        let input = || serial_text(&begun, &bytes, &calls, pool_at);
+        let [memory, other] = &self.memory;
+        same_bytes("memory of all calls", memory, other, input)?;
+        self.third.clear();
+        self.third.extend_from_slice(&self.pool[pool_at..pool_at + MEMORY]);
+        if new {
+            self.against_whole(&stream[..fed], &players[0], pool_at, input)
+        } else {
+            self.against_cut(&stream[..fed], begun, &players[0], input)
+        }
+    }
+
+    /// One call of both players, and what holds of it alone.
+    fn call(
+        &mut self,
+        call: Call,
+        bytes: &[u8],
+        players: &mut [Player; 2],
+        look: bool,
+        input: impl Fn() -> String,
+    ) -> Result<Played, String> {
+        let before = players[0];
+        let [player, other_player] = players;
+        let [memory, other_memory] = &mut self.memory;
+        let (function, answer, theirs) = match call {
+            Call::Block { at, length, memory: size } => {
+                let block = &bytes[at..at + length];
+                let answer = serial::feed(player, block, &mut memory[..size]);
+                (FEED, answer, unit::feed(other_player, block, &mut other_memory[..size]))
+            }
+            Call::End => (END, serial::end(player), unit::end(other_player)),
+        };
+        // A state may have any number kept; those that are no refusal are not counted.
+        if let Some(seen) = self.seen[function].get_mut(answer.number as usize) {
+            *seen += 1;
+        }
+        same(FUNCTIONS[function], answer, theirs, &input)?;
+        same("player", *player, *other_player, &input)?;
+        if look {
+            same_bytes("memory of a call", memory, other_memory, &input)?;
+        }
+        if before.kept != 0 || matches!(answer.number, 18 | 32) {
+            same("player of a call that changes nothing", before, *player, &input)?;
+        }
+        Ok(answer)
+    }
+
+    /// A new player that was fed some bytes and ended, against the whole player; the memory of the
+    /// records that it took, against pixel-by-pixel playing.
+    fn against_whole(
+        &mut self,
+        stream: &[u8],
+        player: &Player,
+        pool_at: usize,
+        input: impl Fn() -> String,
+    ) -> Checked {
+        let records = &stream[..stream.len() / 8 * 8];
+        let mut whole = reference::play(records, &mut self.third);
+        let at_end = whole.number == 0 || whole.place == records.len() as u64 / 8;
+        if at_end && records.len() < stream.len() {
+            whole = Played { number: 19, ..Played::default() };
+        }
+        let ended = serial::end(&mut player.clone());
+        same("the whole player", ended, whole, &input)?;
+        let taken = if at_end { records } else { &records[..8 * whole.place as usize] };
+        same("records taken", player.count, taken.len() as u64 / 8, &input)?;
+        let mut registers = [0; 15];
+        for record in taken.chunks(8) {
+            let half = |at: usize| u32::from_le_bytes(record[at..at + 4].try_into().unwrap());
+            if let Some(i) = inputs::NUMBERS[..15].iter().position(|&number| number == half(0)) {
+                registers[i] = half(4);
+            }
+        }
+        same("registers", player.registers, registers, &input)?;
+        let memory = &self.memory[0][..MEMORY];
+        if whole.number == 0 {
+            same_bytes("the whole player's memory", memory, &self.third, &input)?;
+        }
+        self.third.copy_from_slice(&self.pool[pool_at..pool_at + MEMORY]);
+        literal::play(taken, &mut self.third);
+        same_bytes("fed, then pixel by pixel", memory, &self.third, &input)
+    }
+
+    /// A player of any state that was fed some bytes and ended, against the same bytes cut elsewhere.
+    fn against_cut(
+        &mut self,
+        stream: &[u8],
+        mut begun: Player,
+        player: &Player,
+        input: impl Fn() -> String,
+    ) -> Checked {
+        // Without a block a state is not made plain.
+        if stream.is_empty() {
+            return Ok(());
+        }
+        for block in stream.chunks(BLOCK) {
+            serial::feed(&mut begun, block, &mut self.third);
+        }
+        serial::end(&mut begun);
+        same("player, cut elsewhere", *player, begun, &input)?;
+        same_bytes("memory, cut elsewhere", &self.memory[0][..MEMORY], &self.third, &input)
     }
 
     /// A few points of settings that no compiling made.
@@ -283,10 +481,11 @@ impl Bench {
     }
 
     fn input(&mut self, rng: &mut Rng) -> Checked {
-        match rng.below(10) {
+        match rng.below(12) {
             0..=3 => self.compile(rng),
             4 => self.draw(rng),
-            5..=8 => self.stream(rng),
+            5..=7 => self.stream(rng),
+            8..=10 => self.serial(rng),
             _ => self.points(rng),
         }
     }
@@ -332,11 +531,14 @@ fn main() -> ExitCode {
         FUNCTIONS.map(|name| format!("{name:>10}")).concat()
     );
     let mut unseen = Vec::new();
-    for number in 0..26 {
+    for number in (0..=HIGHEST).filter(|number| !FREE.contains(number)) {
         let row = bench.seen.map(|seen| seen[number]);
         let times = row.map(|times| format!("{times:>10}")).concat();
         report += &format!("{number:>6}{times}\n");
-        if row == [0; 4] {
+        let missed = |&(function, numbers): &(usize, &[usize])| {
+            row[function] == 0 && numbers.contains(&number)
+        };
+        if row.iter().all(|&times| times == 0) || FED.iter().any(missed) {
             unseen.push(number);
         }
     }
