@@ -1,14 +1,16 @@
-/* S1D13A05 display unit: compiling a drawing list, playing its stream over a display memory, and
- * reading what a panel point shows. docs/FORMATS.md has the records, registers and pixels by bytes
- * and bits, and docs/TRUST.md what is proved and what is assumed.
+/* S1D13A05 display unit: compiling a drawing list, playing its stream over a display memory, whole or
+ * in small blocks, and reading what a panel point shows. docs/FORMATS.md has the records, registers
+ * and pixels by bytes and bits, and docs/TRUST.md what is proved and what is assumed.
  *
- * Pointers. Each pointer is followed by its length in elements, but for values, which has six. It is
- * valid for that length, and not null even where the length is 0. A buffer that is written overlaps
- * no other one of the same call. No function keeps a pointer, allocates, or blocks.
+ * Pointers. Each pointer is followed by its length in elements, but for values, which has six, and
+ * player, which is one. It is valid for that length, and not null even where the length is 0. A buffer
+ * that is written overlaps no other one of the same call. No function keeps a pointer, allocates, or
+ * blocks.
  *
  * Answers. number is 0 where the input is accepted, else the refusal, one of s1d_refusal. A refusal
  * leaves every buffer as it was, and every other number of the answer is 0, but for place (and the
- * part, in s1d_compile), where they name the culprit.
+ * part, in s1d_compile), where they name the culprit. For s1d_feed alone memory keeps the work of the
+ * records before the refused one, since a stream that comes in blocks cannot be taken back.
  */
 #ifndef S1D_H
 #define S1D_H
@@ -24,6 +26,7 @@ extern "C" {
 #define S1D_COMMAND_LENGTH 32      /* bytes of a command */
 #define S1D_COMMANDS 64            /* most commands of a list */
 #define S1D_STREAM_RECORD_LENGTH 8 /* bytes of a stream record */
+#define S1D_BLOCK_LENGTH 64        /* most bytes of a block that s1d_feed takes */
 #define S1D_MEMORY_LENGTH 262144   /* bytes of the display memory */
 
 /* Bytes of the stream of so many commands and host words: six records for the screen, nine for each
@@ -53,8 +56,8 @@ enum s1d_raster {
 };
 
 /* Refusals. The first whose text holds is given, in the order of the numbers, but that commands (12
- * to 15) and stream records (20 to 23) are checked one after another; s1d_read_point and s1d_draw name
- * their own order. 7 to 9 apply with flag 1 only.
+ * to 15) and stream records (20 to 23) are checked one after another; s1d_read_point, s1d_draw, s1d_feed
+ * and s1d_end name their own order. 7 to 9 apply with flag 1 only.
  *
  * place is the command's index for 12 to 15, the stream record's for 20 to 23, else 0. Both count
  * from 0. */
@@ -86,7 +89,8 @@ enum s1d_refusal {
     S1D_DATA_DUE = 23,          /* data word when none is due; a register write, or the stream's end, while one
                                    is due (at the end, place is the number of records) */
     S1D_POINT_OUTSIDE = 24,     /* panel point outside the panel */
-    S1D_POINT_ADDRESS = 25      /* the point's dword address outside 0 to 65535 */
+    S1D_POINT_ADDRESS = 25,     /* the point's dword address outside 0 to 65535 */
+    S1D_BLOCK_FORM = 32         /* block over 64 bytes */
 };
 
 typedef struct s1d_compiled {
@@ -105,6 +109,34 @@ typedef struct s1d_played {
     uint64_t place;
     uint32_t values[6]; /* main start, main offset, window start, window offset, X, Y */
 } s1d_played;
+
+/* The blit registers, as last written. */
+typedef struct s1d_registers {
+    uint32_t control;     /* 8000h */
+    uint32_t command;     /* 8008h */
+    uint32_t source;      /* 800Ch */
+    uint32_t destination; /* 8010h */
+    uint32_t offset;      /* 8014h */
+    uint32_t width;       /* 8018h */
+    uint32_t height;      /* 801Ch */
+    uint32_t background;  /* 8020h */
+    uint32_t foreground;  /* 8024h */
+} s1d_registers;
+
+/* The state of a player that is fed in blocks, between two of them. It has no pointer and may be
+ * copied. Any contents are a state, also those that no stream leads to. */
+typedef struct s1d_player {
+    uint32_t values[6];  /* screen registers as last written, in the order of s1d_played */
+    s1d_registers blit;
+    uint32_t due;        /* 0: no data word is due; any other number: one is */
+    uint16_t line, word; /* the due word's line, and its index in the line */
+    uint8_t half[7];     /* the bytes of the half-read record */
+    uint8_t held;        /* how many they are; above 7 means 7 */
+    uint64_t count;      /* records taken, up to 2^64 - 1 */
+    uint32_t kept;       /* 0: no answer is kept; any other number: one is */
+    uint32_t number;     /* the kept answer's number; where it is 0 the answer has place 0 and the values above */
+    uint64_t place;      /* the kept answer's place */
+} s1d_player;
 
 typedef struct s1d_point {
     uint32_t number;
@@ -133,8 +165,29 @@ s1d_compiled s1d_compile(const uint8_t *screen, size_t screen_length,
 s1d_played s1d_play(const uint8_t *stream, size_t stream_length,
                     uint8_t *memory, size_t memory_length);
 
+/* A player before the first block: all zeros. */
+s1d_player s1d_new_player(void);
+
+/* Plays the next block of a stream, 0 to 64 bytes, cut anywhere. player and memory are as the earlier
+ * blocks left them. A block that is taken gives 0, and 0 for all else; the bytes of a record that it
+ * leaves incomplete are held. Fed from a new player and ended, a stream of whole records gets s1d_play's
+ * number and place and, where that accepts, its memory and values, however it is cut.
+ *
+ * In the order of checking: an answer that is kept is given again, and nothing changes; 18; 32; 20 to
+ * 23 record by record, place counting from the stream's start. 18 and 32 change nothing and are not
+ * kept. 20 to 23 are kept: the records before the refused one are played, and the block's later bytes
+ * are dropped. */
+s1d_played s1d_feed(s1d_player *player,
+                    const uint8_t *block, size_t block_length,
+                    uint8_t *memory, size_t memory_length);
+
+/* Ends the stream. The answer has the last six screen values, and is kept.
+ * In the order of checking: an answer that is kept is given again, and nothing changes; 19 (a record is
+ * half read); 23 (a data word is due; place is the number of records). */
+s1d_played s1d_end(s1d_player *player);
+
 /* The colour at panel point (p, q), of a panel of width by height, for the settings that s1d_compile
- * gave and the six values that s1d_play gave. Changes nothing.
+ * gave and the six values that s1d_play or s1d_end gave. Changes nothing.
  * Refusals, in the order of checking: 18, 1 (flag above 1), 2, 3, 4, 5, 21 (one of values outside its
  * field), 24, 25. */
 s1d_point s1d_read_point(uint32_t depth, uint32_t rotation, uint32_t flag,

@@ -434,10 +434,13 @@ pub fn player(rng: &mut Rng) -> (Player, Vec<u8>) {
             _ => rng.any() as u32,
         };
     }
-    // Often a small write into the memory, or near its end.
+    // Often a small blit at either end of the memory; bits outside the fields are any.
     if rng.one_in(2) {
-        player.registers[9] = rng.pick(&[0, MEMORY - 6]) as u32 + rng.below(6) as u32;
-        player.registers[10] = rng.below(6) as u32;
+        player.registers[7] = rng.any() as u32 & !0xF | rng.pick(&[0, 2, 3, 12]);
+        player.registers[8] = (rng.any() << 18) as u32;
+        player.registers[9] =
+            (rng.any() << 18) as u32 + rng.pick(&[0, MEMORY - 6]) as u32 + rng.below(6) as u32;
+        player.registers[10] = (rng.any() << 11) as u32 + rng.below(6) as u32;
     }
     let [.., width, height, _, _] = player.registers.map(|register| u64::from(register % 1024 + 1));
     let words = if player.registers[6] >> 18 & 1 == 1 { width } else { width.div_ceil(2) };
@@ -454,11 +457,15 @@ pub fn player(rng: &mut Rng) -> (Player, Vec<u8>) {
         1 => rng.any(),
         _ => u64::MAX - rng.below(40),
     };
-    player.kept = if rng.one_in(16) { rng.any() as u32 >> rng.below(32) } else { 0 };
-    player.number = if rng.one_in(3) { rng.any() as u32 } else { rng.below(34) as u32 };
+    player.kept = if rng.one_in(8) { rng.any() as u32 >> rng.below(32) } else { 0 };
+    player.number = match rng.below(4) {
+        0 => 0,
+        1 => rng.any() as u32,
+        _ => rng.below(34) as u32,
+    };
     player.place = rng.any();
 
-    // As many words as are due, or some; then blits, or any records.
+    // As many words as are due, or some; then any records, or blits.
     let due = words.saturating_sub(player.word.into()).max(1)
         + height.saturating_sub(u64::from(player.line) + 1) * words;
     let count = match player.due {
@@ -466,8 +473,12 @@ pub fn player(rng: &mut Rng) -> (Player, Vec<u8>) {
         _ if due <= 100 && !rng.one_in(4) => due,
         _ => rng.below(40),
     };
-    let word = |rng: &mut Rng| u64::from(0x10000u32) | u64::from(rng.any() as u16) << 32;
+    let word = |rng: &mut Rng| 0x10000 | u64::from(rng.any() as u16) << 32;
     let mut stream: Vec<u8> = (0..count).flat_map(|_| word(rng).to_le_bytes()).collect();
+    if rng.one_in(2) {
+        // A start on the registers as they are.
+        stream.extend((0x8000 | rng.pick(&[1u64, 0x4_0001]) << 32).to_le_bytes());
+    }
     if rng.one_in(3) {
         for _ in 0..rng.below(30) {
             let value = if rng.one_in(2) { rng.below(4) } else { rng.near(0) };

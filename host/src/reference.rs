@@ -404,6 +404,9 @@ pub(crate) enum Kind {
     Write,
 }
 
+/// Room for a line's source: 1,024 pixels of two bytes.
+const LINE: [u8; 2048] = [0; 2048];
+
 /// A blit, as the registers have it.
 pub(crate) struct Blit {
     pub kind: Kind,
@@ -483,45 +486,55 @@ impl Blit {
         }
     }
 
-    /// Draws the blit; a write's words are those of the data records, which begin with its own.
-    pub fn run(&self, mut data: &[u8], memory: &mut [u8]) {
-        // One line's source, where it must be held: 1,024 pixels of two bytes.
-        let mut held = [0; 2048];
+    /// Draws the blit; a write's words are in the data records.
+    pub fn run(&self, data: &[u8], memory: &mut [u8]) {
+        match self.kind {
+            Kind::Fill => self.fill(memory),
+            Kind::Write => self.write(data, memory),
+            Kind::Forward | Kind::Backward => self.shift(memory),
+        }
+    }
+
+    fn fill(&self, memory: &mut [u8]) {
+        let colour = self.colour.to_le_bytes();
         for j in 0..self.lines {
             let to = self.line_at(self.destination, j);
-            match self.kind {
-                Kind::Fill => {
-                    let line = &mut memory[to..to + self.line];
-                    let colour = self.colour.to_le_bytes();
-                    if self.pixel == 1 {
-                        line.fill(colour[0]);
-                    } else {
-                        line.chunks_exact_mut(2).for_each(|pixel| pixel.copy_from_slice(&colour));
-                    }
-                }
-                Kind::Write => {
-                    let records;
-                    (records, data) = data.split_at(8 * self.words());
-                    for (pair, record) in held.chunks_exact_mut(2).zip(records.chunks_exact(8)) {
-                        pair.copy_from_slice(&record[4..6]);
-                    }
-                    combine(self.code, &mut memory[to..to + self.line], &held[..self.line]);
-                }
-                Kind::Forward | Kind::Backward => {
-                    let from = self.line_at(self.source, j);
-                    let smears = match self.kind {
-                        Kind::Forward => from < to && to < from + self.line,
-                        _ => to < from && from < to + self.line,
-                    };
-                    if smears {
-                        self.smear(memory, from, to);
-                    } else if self.code == 0xC {
-                        memory.copy_within(from..from + self.line, to);
-                    } else {
-                        held[..self.line].copy_from_slice(&memory[from..from + self.line]);
-                        combine(self.code, &mut memory[to..to + self.line], &held[..self.line]);
-                    }
-                }
+            let line = &mut memory[to..to + self.line];
+            if self.pixel == 1 {
+                line.fill(colour[0]);
+            } else {
+                line.chunks_exact_mut(2).for_each(|pixel| pixel.copy_from_slice(&colour));
+            }
+        }
+    }
+
+    fn write(&self, data: &[u8], memory: &mut [u8]) {
+        let mut source = LINE;
+        for (j, records) in data.chunks(8 * self.words()).take(self.lines).enumerate() {
+            let to = self.line_at(self.destination, j);
+            for (pair, record) in source.chunks_exact_mut(2).zip(records.chunks_exact(8)) {
+                pair.copy_from_slice(&record[4..6]);
+            }
+            combine(self.code, &mut memory[to..to + self.line], &source[..self.line]);
+        }
+    }
+
+    fn shift(&self, memory: &mut [u8]) {
+        let mut source = LINE;
+        for j in 0..self.lines {
+            let to = self.line_at(self.destination, j);
+            let from = self.line_at(self.source, j);
+            let smears = match self.kind {
+                Kind::Forward => from < to && to < from + self.line,
+                _ => to < from && from < to + self.line,
+            };
+            if smears {
+                self.smear(memory, from, to);
+            } else if self.code == 0xC {
+                memory.copy_within(from..from + self.line, to);
+            } else {
+                source[..self.line].copy_from_slice(&memory[from..from + self.line]);
+                combine(self.code, &mut memory[to..to + self.line], &source[..self.line]);
             }
         }
     }
@@ -572,14 +585,21 @@ pub(crate) fn combine(code: u32, line: &mut [u8], source: &[u8]) {
     }
 }
 
+/// Number and value of a stream record.
+fn read_record(record: &[u8]) -> (u32, u32) {
+    let record = u64::from_le_bytes(record.try_into().unwrap());
+    (record as u32, (record >> 32) as u32)
+}
+
 /// What a record that is no due data word writes: a register's slot, its value, and the blit that it
-/// starts; or refusal 20 to 23.
+/// starts; or refusal 20 to 23. Inlined, since what it gives back is large.
+#[inline(always)]
 pub(crate) fn admit(
     record: &[u8],
     registers: &Registers,
     due: bool,
 ) -> Result<(usize, u32, Option<Blit>), u32> {
-    let (number, value) = (u32_at(record, 0), u32_at(record, 4));
+    let (number, value) = read_record(record);
     if number == DATA {
         return Err(if value > 0xFFFF { 21 } else { 23 });
     }
@@ -597,7 +617,7 @@ pub(crate) fn admit(
 
 /// How many data words stand at the front of some records, `most` at most.
 pub(crate) fn words_in(records: &[u8], most: usize) -> usize {
-    let good = |record: &&[u8]| u32_at(record, 0) == DATA && u32_at(record, 4) <= 0xFFFF;
+    let good = |&record: &&[u8]| matches!(read_record(record), (DATA, 0..=0xFFFF));
     records.chunks_exact(8).take(most).take_while(good).count()
 }
 

@@ -1,8 +1,10 @@
-//! Paper 01's cases S1 to S9 and B1 to B4 on the reference, and on the library where it is linked.
+//! Paper 01's cases S1 to S9 and B1 to B4, and cases of paper 02's request a), on the reference, and
+//! on the library where it is linked.
 
-use host::answers::{Compiled, Drawn, Played, Settings};
+use host::answers::{Compiled, Drawn, Played, Player, Settings};
 use host::reference::MEMORY;
-use host::{reference, sheet, unit};
+use host::serial::BLOCK;
+use host::{reference, serial, sheet, unit};
 
 struct Screen {
     depth: u8,
@@ -182,10 +184,17 @@ fn odd_lines() {
     }
 }
 
+fn record(number: u32, value: u32) -> Vec<u8> {
+    [number.to_le_bytes(), value.to_le_bytes()].concat()
+}
+
+fn records(records: &[(u32, u32)]) -> Vec<u8> {
+    records.iter().flat_map(|&(number, value)| record(number, value)).collect()
+}
+
 /// The stream's end while a word is due: the place is the number of records.
 #[test]
 fn end_at_fault() {
-    let record = |number: u32, value: u32| [number.to_le_bytes(), value.to_le_bytes()].concat();
     let stream = [record(0x44, 3), record(0x8000, 1)].concat();
     for play in [reference::play, unit::play] {
         let mut memory = vec![9; MEMORY];
@@ -232,5 +241,261 @@ fn corners() {
                 .map(|(p, q)| read(&settings, p, q, &memory).colour);
             assert_eq!(shown, want, "rotation {rotation}");
         }
+    }
+}
+
+// ---- Request a) of 02 ----
+
+type Feed = fn(&mut Player, &[u8], &mut [u8]) -> Played;
+type End = fn(&mut Player) -> Played;
+
+/// The reference and the library.
+const SERIAL: [(Feed, End); 2] = [(serial::feed, serial::end), (unit::feed, unit::end)];
+
+const TAKEN: Played = Played { number: 0, place: 0, values: [0; 6] };
+
+fn refused(number: u32, place: u64) -> Played {
+    Played { number, place, ..TAKEN }
+}
+
+/// A fill of the byte at `at`, on a chip whose registers are 0.
+fn dot(at: u32, colour: u32) -> Vec<u8> {
+    records(&[(0x8008, 0xC), (0x8010, at), (0x8024, colour), (0x8000, 1)])
+}
+
+/// What comes after an answer that is kept: it is repeated, whatever is lent, and nothing changes.
+fn repeats((feed, end): (Feed, End), player: &mut Player, memory: &mut [u8], answer: Played) {
+    let (before, drawn) = (*player, memory.to_vec());
+    assert_eq!(feed(player, &[], memory), answer);
+    assert_eq!(feed(player, &dot(0, 0x77), memory), answer);
+    assert_eq!(feed(player, &[0; BLOCK + 1], memory), answer);
+    assert_eq!(feed(player, &[], &mut memory[1..]), answer);
+    assert_eq!(end(player), answer);
+    assert_eq!(*player, before);
+    assert_eq!(memory, drawn);
+}
+
+/// B1's stream, cut into blocks of each size, with an empty one between them.
+#[test]
+fn b1_in_blocks() {
+    let screen = Screen { depth: 8, ..S1 };
+    let list = command(0, 0, 0, [10, 20, 100, 150, 0, 0, 1]);
+    let stream = records(&compile(&screen, &list, &[]).1);
+    let mut drawn = vec![9; MEMORY];
+    let answer = reference::play(&stream, &mut drawn);
+    assert_eq!(answer, Played { values: [0, 0x50, 0, 0, 0, 0], ..TAKEN });
+    assert_eq!(drawn.iter().filter(|&&byte| byte == 1).count(), 100 * 150);
+    assert_eq!(unit::new_player(), Player::default());
+    for (feed, end) in SERIAL {
+        for size in 1..=BLOCK {
+            let (mut player, mut memory) = (serial::new_player(), vec![9; MEMORY]);
+            for (i, block) in stream.chunks(size).enumerate() {
+                assert_eq!(feed(&mut player, block, &mut memory), TAKEN);
+                let fed = size * i + block.len();
+                assert_eq!((player.count, player.held), (fed as u64 / 8, fed as u8 % 8));
+                assert_eq!(feed(&mut player, &[], &mut memory), TAKEN);
+            }
+            assert_eq!(end(&mut player), answer);
+            assert_eq!(memory, drawn);
+            let want = Player {
+                registers: [0, 0x50, 0, 0, 0, 0, 1, 0xC, 0, 0x190A, 0xA0, 0x63, 0x95, 0, 1],
+                count: 15,
+                kept: 1,
+                ..Player::default()
+            };
+            assert_eq!(player, want);
+            repeats((feed, end), &mut player, &mut memory, answer);
+        }
+    }
+}
+
+/// A write that is cut within its words, at both depths: each word is drawn when it is whole.
+#[test]
+fn words_in_blocks() {
+    // 3 by 2 pixels of a byte, and 2 by 2 of two.
+    for (control, at, width, want) in [
+        (1, 1, 3, [9, 1, 2, 3, 9, 4, 5, 6, 9]),
+        (0x4_0001, 0, 2, [1, 2, 3, 0xEE, 4, 5, 6, 0xEE, 9]),
+    ] {
+        let start = records(&[
+            (0x8008, 0xC_0000),
+            (0x8010, at),
+            (0x8014, 2),
+            (0x8018, width - 1),
+            (0x801C, 1),
+            (0x8000, control),
+        ]);
+        let words = records(&[0x0201, 0xEE03, 0x0504, 0xEE06].map(|word| (0x10000, word)));
+        for (feed, end) in SERIAL {
+            let (mut player, mut memory) = (serial::new_player(), vec![9; MEMORY]);
+            for (block, count, due, line, word) in [
+                (&start[..], 6, 1, 0, 0),
+                (&words[..15], 7, 1, 0, 1),
+                (&words[15..16], 8, 1, 1, 0),
+                (&words[16..], 10, 0, 0, 0),
+            ] {
+                assert_eq!(feed(&mut player, block, &mut memory), TAKEN);
+                assert_eq!(player.count, count);
+                assert_eq!((player.due, player.line, player.word), (due, line, word));
+                assert_eq!(memory[at as usize + 2] == 3, count > 7);
+            }
+            assert_eq!(memory[..9], want);
+            assert_eq!(end(&mut player), TAKEN);
+            repeats((feed, end), &mut player, &mut memory, TAKEN);
+        }
+    }
+}
+
+/// A refused record: what was drawn before it stays, what follows it is dropped.
+#[test]
+fn refused_records() {
+    // A number, what comes before the record, and the record itself.
+    let due = [(0x8008, 0), (0x8000, 1)];
+    let cases: [(u32, &[(u32, u32)], (u32, u32)); 9] = [
+        (20, &[], (0x48, 0)),
+        (21, &[], (0x44, 0x400)),
+        (21, &[], (0x10000, 0x1_0000)),
+        (21, &[(0x8008, 5), (0x8000, 0)], (0x8000, 1)),
+        (22, &[(0x8018, 1), (0x8010, 0x3_FFFF), (0x8000, 0)], (0x8000, 1)),
+        (23, &[], (0x10000, 0)),
+        (23, &[(0x8010, 0), due[0], due[1]], (0x44, 1)),
+        (21, &[(0x8010, 0), due[0], due[1]], (0x44, 0x400)),
+        (20, &[(0x8010, 0), due[0], due[1]], (0x48, 0)),
+    ];
+    for (number, before, bad) in cases {
+        let stream = [dot(5, 7), records(before), records(&[bad]), dot(6, 8)].concat();
+        let place = 4 + before.len() as u64;
+        let answer = refused(number, place);
+        for (feed, end) in SERIAL {
+            for size in [64, 40, 13, 1] {
+                let (mut player, mut memory) = (serial::new_player(), vec![9; MEMORY]);
+                for (i, block) in stream.chunks(size).enumerate() {
+                    let past = (size * i + block.len()) as u64;
+                    let want = if past < 8 * (place + 1) { TAKEN } else { answer };
+                    assert_eq!(feed(&mut player, block, &mut memory), want);
+                }
+                assert_eq!(memory[4..8], [9, 7, 9, 9]);
+                // The registers are as the records before it left them, and nothing is half read.
+                let mut taken = serial::new_player();
+                for block in stream[..8 * place as usize].chunks(BLOCK) {
+                    assert_eq!(feed(&mut taken, block, &mut memory), TAKEN);
+                }
+                assert_eq!(player, Player { kept: 1, number, place, ..taken });
+                repeats((feed, end), &mut player, &mut memory, answer);
+            }
+        }
+    }
+}
+
+/// 18 comes before 32; neither is kept, and neither changes anything.
+#[test]
+fn memory_before_block() {
+    for (feed, end) in SERIAL {
+        let (mut player, mut memory) = (serial::new_player(), vec![9; MEMORY + 1]);
+        let stream = dot(5, 7);
+        assert_eq!(feed(&mut player, &stream[..29], &mut memory[..MEMORY]), TAKEN);
+        let half_read = player;
+        let long = [0; BLOCK + 1];
+        for (block, length, number) in [
+            (&long[..], MEMORY - 1, 18),
+            (&long[..], MEMORY + 1, 18),
+            (&long[..], MEMORY, 32),
+            (&stream[29..], 0, 18),
+            (&stream[29..], MEMORY + 1, 18),
+            (&[], MEMORY - 1, 18),
+        ] {
+            assert_eq!(feed(&mut player, block, &mut memory[..length]), refused(number, 0));
+            assert_eq!(player, half_read);
+            assert!(memory.iter().all(|&byte| byte == 9));
+        }
+        assert_eq!(feed(&mut player, &stream[29..], &mut memory[..MEMORY]), TAKEN);
+        assert_eq!(memory[4..7], [9, 7, 9]);
+        assert_eq!(end(&mut player), TAKEN);
+    }
+}
+
+/// The end: 19 before 23, whose place is the record count. It is kept.
+#[test]
+fn ends() {
+    // One word is due: operation 0, one pixel, raster code 0.
+    let stream = records(&[(0x44, 3), (0x8000, 1), (0x10000, 0xFFFF)]);
+    let values = [0, 3, 0, 0, 0, 0];
+    for (feed, end) in SERIAL {
+        for (length, answer) in [
+            (0, TAKEN),
+            (1, refused(19, 0)),
+            (8, Played { values, ..TAKEN }),
+            (15, refused(19, 0)),
+            (16, refused(23, 2)),
+            (17, refused(19, 0)),
+            (23, refused(19, 0)),
+            (24, Played { values, ..TAKEN }),
+        ] {
+            let (mut player, mut memory) = (serial::new_player(), vec![9; MEMORY]);
+            assert_eq!(feed(&mut player, &stream[..length], &mut memory), TAKEN);
+            let ended = Player { kept: 1, number: answer.number, place: answer.place, ..player };
+            assert_eq!(end(&mut player), answer);
+            assert_eq!(player, ended);
+            repeats((feed, end), &mut player, &mut memory, answer);
+            assert_eq!(memory[0], if length == 24 { 0 } else { 9 });
+        }
+    }
+}
+
+/// The count stops at 2^64 - 1, and records go on being taken.
+#[test]
+fn count_stops() {
+    for (feed, end) in SERIAL {
+        let mut memory = vec![9; MEMORY];
+        let mut player = Player { count: u64::MAX - 1, ..serial::new_player() };
+        for (at, colour) in [(5, 7), (6, 8)] {
+            assert_eq!(feed(&mut player, &dot(at, colour), &mut memory), TAKEN);
+            assert_eq!(player.count, u64::MAX);
+        }
+        assert_eq!(memory[4..8], [9, 7, 8, 9]);
+        let answer = refused(20, u64::MAX);
+        assert_eq!(feed(&mut player, &record(0x48, 0), &mut memory), answer);
+        repeats((feed, end), &mut player, &mut memory, answer);
+    }
+}
+
+/// States that no stream leads to: more than 7 bytes held means 7, and any number but 0 is a yes.
+#[test]
+fn any_state() {
+    let half = *record(0x44, 3).first_chunk().unwrap();
+    for (feed, end) in SERIAL {
+        let mut memory = vec![9; MEMORY];
+        let state = Player { half, held: 200, number: 5, place: 6, ..serial::new_player() };
+        let mut player = state;
+        assert_eq!(feed(&mut player, &[], &mut memory), TAKEN);
+        assert_eq!(player, Player { half, held: 7, ..serial::new_player() });
+        player = state;
+        assert_eq!(feed(&mut player, &[0, 0x58], &mut memory), TAKEN);
+        let mut want = Player { held: 1, count: 1, ..serial::new_player() };
+        (want.registers[1], want.half[0]) = (3, 0x58);
+        assert_eq!(player, want);
+        player = state;
+        assert_eq!(end(&mut player), refused(19, 0));
+        assert_eq!(player, Player { kept: 1, number: 19, place: 0, ..state });
+
+        let mut player = Player { due: 0x100, count: 4, ..serial::new_player() };
+        assert_eq!(feed(&mut player, &record(0x44, 3), &mut memory), refused(23, 4));
+        assert_eq!(player.due, 1);
+        let kept = Player { kept: 0x100, number: 5, place: 6, ..state };
+        repeats((feed, end), &mut { kept }, &mut memory, refused(5, 6));
+        // A kept 0 has the values, and place 0.
+        let mut ended = Player { number: 0, ..kept };
+        ended.registers[3] = 0xFFFF_FFFF;
+        let values = [0, 0, 0, 0xFFFF_FFFF, 0, 0];
+        repeats((feed, end), &mut ended, &mut memory, Played { values, ..TAKEN });
+
+        // A word past the memory's end is taken, and not stored.
+        let mut player = Player { due: 1, ..serial::new_player() };
+        (player.registers[7], player.registers[9]) = (0xC_0000, 0x3_FFFF);
+        player.registers[11] = 2;
+        let word = record(0x10000, 0x0201);
+        assert_eq!(feed(&mut player, &[&word[..], &word].concat(), &mut memory), TAKEN);
+        assert_eq!((player.due, player.count), (0, 2));
+        assert_eq!(memory[MEMORY - 2..], [9, 1]);
     }
 }

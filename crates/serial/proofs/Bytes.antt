@@ -6,16 +6,15 @@ use mathlib.Core.List.{List, [], _∷_, _++_}
 use native.Mathlib.Omega.{arith}
 use lib.Dec.{eqb}
 use lib.ListN.{length, drop}
-use borrow.Author.Tests.{eq-eqb, ne-eqb, eqb-true, eqb-false}
+use borrow.Author.Tests.{ne-eqb, eqb-true, eqb-false}
 use Rattle.record.specs.Record.{recordAt, recordsFrom, recordsOf}
 use Rattle.record.specs.declared.Record.{Record}
 use Rattle.record.proofs.Records.{records-cons}
-use Rattle.chip.specs.Admit.{refusal, chipAfter, effect}
+use Rattle.chip.specs.Admit.{refusal}
 use Rattle.chip.specs.declared.Chip.{Chip}
-use Rattle.serial.specs.State.{State, counted}
 use Rattle.serial.specs.Serial.{Stage, recordTaken, byteTaken, bytesTaken}
 use Rattle.serial.specs.Taking.{stageAt, recordsTaken}
-use Rattle.serial.proofs.Taken.{record-taken, record-refused, records-next, records-stop}
+use Rattle.serial.proofs.Taken.{record-taken, record-refused, records-taken, records-stop}
 
 -- ---- bytes
 
@@ -116,7 +115,7 @@ rest-eight m c n old a b d e f g h i l others =
     let r : Record = recordAt bs 0 in
     eight m c n old a b d e f g h i l
     ∙ rest-behind m c n old l r others (eqb (refusal m c r) 0) refl
-    ∙ sym (λ t. withHalf ((ap (recordsTaken m (stageAt c n old)) (records-cons a b d e f g h i l) ∙ records-next m (stageAt c n old) r (recordsOf l) refl) t) (left-behind a b d e f g h i l t))
+    ∙ sym (λ t. withHalf ((ap (recordsTaken m (stageAt c n old)) (records-cons a b d e f g h i l) ∙ records-taken m (stageAt c n old) r (recordsOf l) refl) t) (left-behind a b d e f g h i l t))
 
 -- bytes that begin with a record: the whole records one after another, then what is left
 pub rest-taken : (m : ℕ) (c : Chip) (n : ℕ) (old bs : List ℕ) → bytesTaken m (stageAt c n old) bs ≡ withHalf (recordsTaken m (stageAt c n old) (recordsOf bs)) (leftOver bs)

@@ -16,10 +16,10 @@ use Rattle.chip.specs.declared.Chip.{Chip}
 use Rattle.chip.specs.declared.Run.{Run}
 use Rattle.chip.proofs.Runs.{run-taken, run-refused, admitted}
 use Rattle.serial.specs.State.{mostRecords, counted}
-use Rattle.serial.specs.Serial.{Stage, recordTaken}
-use Rattle.serial.specs.Taking.{stageAt, recordsTaken}
+use Rattle.serial.specs.Serial.{Stage}
+use Rattle.serial.specs.Taking.{stageAt, stageOf, recordsTaken}
 use Rattle.serial.specs.Cutting.{beforeRefused}
-use Rattle.serial.proofs.Taken.{refusedAt, record-taken, record-refused, records-next, records-stop}
+use Rattle.serial.proofs.Taken.{record-taken, record-refused, records-taken, records-stop}
 
 -- a number as far as the count goes
 abbrev pub upTo : ℕ → ℕ
@@ -36,6 +36,10 @@ reachedBy r n = cond (eqb (r .number) 0) n (r .place)
 abbrev pub ranTo : Run → ℕ → List ℕ → Stage
 ranTo r n memory = record { state = record { chip = r .chip; half = []; count = upTo (reachedBy r n); number = r .number }; memory = memory }
 
+-- the stage at which a record was refused
+abbrev refusedAt : Chip → ℕ → ℕ → List ℕ → Stage
+refusedAt c n k old = stageOf (record { chip = c; count = n; number = k }) old
+
 -- the law below
 abbrev Follows : ℕ → Chip → ℕ → List Record → List ℕ → Type 0
 Follows m c i rs old = recordsTaken m (stageAt c (upTo i) old) rs ≡ ranTo (run m c i rs) (i + length rs) (applied c (beforeRefused m c rs) old)
@@ -46,7 +50,7 @@ module _ (m : ℕ) (c : Chip) (i : ℕ) (r : Record) (rs : List Record) (old : L
   follows-taken e others =
       let n : suc i + length rs ≡ i + suc (length rs) = omega arith in
       let before : beforeRefused m c (r ∷ rs) ≡ r ∷ beforeRefused m (chipAfter c r) rs = rw (eq-eqb (refusal m c r) 0 e) in
-      records-next m (stageAt c (upTo i) old) r rs refl
+      records-taken m (stageAt c (upTo i) old) r rs refl
       ∙ ap (λ (g : Stage). recordsTaken m g rs) (record-taken m c (upTo i) old r e)
       ∙ ap (λ (k : ℕ). recordsTaken m (stageAt (chipAfter c r) k (effect c r old)) rs) (counts-on i)
       ∙ others
@@ -57,7 +61,7 @@ module _ (m : ℕ) (c : Chip) (i : ℕ) (r : Record) (rs : List Record) (old : L
   follows-refused e =
       let before : beforeRefused m c (r ∷ rs) ≡ [] = rw (ne-eqb (refusal m c r) 0 e) in
       let here : upTo (cond (eqb (refusal m c r) 0) (i + suc (length rs)) i) ≡ upTo i = rw (ne-eqb (refusal m c r) 0 e) in
-      records-next m (stageAt c (upTo i) old) r rs refl
+      records-taken m (stageAt c (upTo i) old) r rs refl
       ∙ ap (λ (g : Stage). recordsTaken m g rs) (record-refused m c (upTo i) old r e)
       ∙ records-stop m (refusedAt c (upTo i) (refusal m c r) old) rs e
       ∙ ap (λ (k : ℕ). refusedAt c k (refusal m c r) old) (sym here)

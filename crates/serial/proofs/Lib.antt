@@ -1,6 +1,10 @@
 pub mod Taken
+pub mod Half
 pub mod Bytes
 pub mod Follows
 pub mod Players
+pub mod Rest
+pub mod Ways
 pub mod Blocks
 pub mod Cutting
+pub mod Cases

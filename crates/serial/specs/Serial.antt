@@ -48,6 +48,23 @@ bytesTaken m g (b ∷ bs) = bytesTaken m (byteTaken m g b) bs
 unfoldable pub blockRows : ℕ → List ℕ → List ℕ → List Row
 blockRows m block memory = row 18 (not (eqb (length memory) m)) ∷ row 32 (ltb 64 (length block)) ∷ []
 
+-- the player that keeps an answer with this number and place
+unfoldable pub keeping : Player → ℕ → ℕ → Player
+keeping p n i =
+    record {
+      values = p .values;
+      blit = p .blit;
+      due = p .due;
+      line = p .line;
+      word = p .word;
+      half = p .half;
+      held = p .held;
+      count = p .count;
+      kept = 1;
+      number = n;
+      place = i;
+    }
+
 -- the answer that a player keeps: of the end its six values, of a refusal number and place
 unfoldable pub keptBy : Player → Playing
 keptBy p =
@@ -76,23 +93,6 @@ feeding m p block memory =
 -- at the record count
 unfoldable pub endRows : Player → List Row
 endRows p = row 19 (not (eqb (heldBy p) 0)) ∷ rowsAt (p .count) (row 23 (not (eqb (p .due) 0)) ∷ [])
-
--- the player that keeps an answer with this number and place
-unfoldable pub keeping : Player → ℕ → ℕ → Player
-keeping p n i =
-    record {
-      values = p .values;
-      blit = p .blit;
-      due = p .due;
-      line = p .line;
-      word = p .word;
-      half = p .half;
-      held = p .held;
-      count = p .count;
-      kept = 1;
-      number = n;
-      place = i;
-    }
 
 -- the player after the end: "calls after it repeat its answer", and so does an end after a refusal
 unfoldable pub endedPlayer : Player → Player

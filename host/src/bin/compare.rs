@@ -316,48 +316,45 @@ impl Bench {
         bytes.extend_from_slice(&self.pool[..200]);
 
         let largest = match rng.below(8) {
+            _ if stream.len() > 20_000 => BLOCK as u64,
             0 => rng.pick(&[1, 3, 7, 8, 9]),
             1 | 2 => rng.between(1, BLOCK as u64),
             _ => BLOCK as u64,
         };
-        let largest = if stream.len() > 20_000 { BLOCK as u64 } else { largest };
-        let whole_blocks = rng.one_in(3);
-        let odd_calls = rng.pick(&[8, 40, 400]);
-        let early_ends = rng.pick(&[20, 2000]);
+        let even = rng.one_in(3);
+        // One call in so many is a refused one, or an end too early.
+        let (odd, early) = (rng.pick(&[8, 40, 400]), rng.pick(&[20, 2000]));
+        // Calls after the answer that is kept.
         let mut late = rng.below(5);
         let mut players = [begun; 2];
         let mut fed = 0;
         let mut calls = Vec::new();
-        loop {
+        while players[0].kept == 0 || late > 0 {
             let kept = players[0].kept != 0;
-            if kept && late == 0 {
-                break;
-            }
             late -= u64::from(kept);
-            let next = match (stream.len() - fed) as u64 {
-                left if whole_blocks => left.min(largest),
-                left => left.min(rng.below(largest + 1)),
-            };
-            let mut call = Call::Block { at: fed, length: next as usize, memory: MEMORY };
-            if rng.one_in(odd_calls) || kept {
-                let Call::Block { length, memory, .. } = &mut call else { unreachable!() };
-                let odd = rng.between(u64::from(!kept), 3);
-                if odd & 1 == 1 {
-                    *length = rng.pick(&[BLOCK + 1, BLOCK + 2, BLOCK + 8, 2 * BLOCK, 200]);
+            let left = stream.len() - fed;
+            let most = if even { largest } else { rng.below(largest + 1) };
+            let (mut length, mut memory) = (left.min(most as usize), MEMORY);
+            if kept || rng.one_in(odd) {
+                let what = rng.between(u64::from(!kept), 3);
+                if what & 1 != 0 {
+                    length = rng.pick(&[BLOCK + 1, BLOCK + 2, BLOCK + 8, 2 * BLOCK, 200]);
                 }
-                if odd & 2 == 2 {
-                    *memory = rng.pick(&[0, 1, 100_000, MEMORY - 1, MEMORY + 1]);
+                if what & 2 != 0 {
+                    memory = rng.pick(&[0, 1, 100_000, MEMORY - 1, MEMORY + 1]);
                 }
             }
-            if fed == stream.len() && rng.one_in(2) || rng.one_in(if kept { 2 } else { early_ends })
-            {
-                call = Call::End;
-            }
+            let end = rng.one_in(if kept || left == 0 { 2 } else { early });
+            let call = if end { Call::End } else { Call::Block { at: fed, length, memory } };
             calls.push(call);
             let input = || serial_text(&begun, &bytes, &calls, pool_at);
             let look = stream.len() <= 2_000 || rng.one_in(64);
             let answer = self.call(call, &bytes, &mut players, look, &input)?;
-            if let (Call::Block { length, .. }, false, 0 | 20..=23) = (call, kept, answer.number) {
+            // What a state keeps is any number.
+            if begun.kept == 0 {
+                self.seen[if end { END } else { FEED }][answer.number as usize] += 1;
+            }
+            if !end && !kept && !matches!(answer.number, 18 | 32) {
                 fed += length;
             }
         }
@@ -385,19 +382,15 @@ impl Bench {
         let before = players[0];
         let [player, other_player] = players;
         let [memory, other_memory] = &mut self.memory;
-        let (function, answer, theirs) = match call {
+        let (what, answer, theirs) = match call {
             Call::Block { at, length, memory: size } => {
                 let block = &bytes[at..at + length];
                 let answer = serial::feed(player, block, &mut memory[..size]);
-                (FEED, answer, unit::feed(other_player, block, &mut other_memory[..size]))
+                ("feed", answer, unit::feed(other_player, block, &mut other_memory[..size]))
             }
-            Call::End => (END, serial::end(player), unit::end(other_player)),
+            Call::End => ("end", serial::end(player), unit::end(other_player)),
         };
-        // A state may have any number kept; those that are no refusal are not counted.
-        if let Some(seen) = self.seen[function].get_mut(answer.number as usize) {
-            *seen += 1;
-        }
-        same(FUNCTIONS[function], answer, theirs, &input)?;
+        same(what, answer, theirs, &input)?;
         same("player", *player, *other_player, &input)?;
         if look {
             same_bytes("memory of a call", memory, other_memory, &input)?;

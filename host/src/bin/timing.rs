@@ -9,9 +9,10 @@
 use std::hint::black_box;
 use std::time::Instant;
 
-use host::answers::{Point, Settings};
+use host::answers::{Played, Player, Point, Settings};
 use host::inputs::Rng;
 use host::reference::MEMORY;
+use host::serial::{self, BLOCK};
 use host::{reference, unit, LINKED};
 
 /// memset or memmove on a memory.
@@ -91,6 +92,17 @@ fn compiled(screen: &[u8], list: &[u8], words: &[u16]) -> Vec<u8> {
     stream
 }
 
+type Feed = fn(&mut Player, &[u8], &mut [u8]) -> Played;
+type End = fn(&mut Player) -> Played;
+
+/// Plays a stream in blocks, from a new player to its end.
+fn fed(mut player: Player, feed: Feed, end: End, stream: &[u8], memory: &mut [u8]) -> Played {
+    for block in stream.chunks(BLOCK) {
+        black_box(feed(&mut player, block, memory));
+    }
+    end(&mut player)
+}
+
 struct Timing {
     rounds: u32,
     rng: Rng,
@@ -146,6 +158,40 @@ impl Timing {
             ],
         );
         row(what, Of::Bytes, bytes, plain.map(|_| least), ours, theirs);
+    }
+
+    /// Plays a stream whole, and in blocks; the rows count its bytes.
+    fn play_in_blocks(&mut self, what: &str, stream: &[u8]) {
+        let mut memory = self.memory();
+        let mut memories = [memory.clone(), memory.clone(), memory.clone()];
+        let answer = reference::play(stream, &mut memory);
+        assert_eq!(answer.number, 0);
+        let [second, third, fourth] = &mut memories;
+        let mut ours_fed = || fed(serial::new_player(), serial::feed, serial::end, stream, second);
+        let mut theirs_fed = || fed(unit::new_player(), unit::feed, unit::end, stream, third);
+        assert_eq!((ours_fed(), theirs_fed()), (answer, answer));
+        let [ours, theirs, ours_cut, theirs_cut] = best(
+            self.rounds,
+            &mut [
+                &mut || {
+                    black_box(reference::play(black_box(stream), &mut memory));
+                },
+                &mut || {
+                    black_box(unit::play(black_box(stream), fourth));
+                },
+                &mut || {
+                    black_box(ours_fed());
+                },
+                &mut || {
+                    black_box(theirs_fed());
+                },
+            ],
+        );
+        let bytes = stream.len();
+        row(&format!("{what} (stream bytes)"), Of::Bytes, bytes, None, ours, theirs);
+        let what = format!("{what} in blocks of {BLOCK} (stream bytes)");
+        row(&what, Of::Bytes, bytes, None, ours_cut, theirs_cut);
+        assert!(memories.iter().all(|other| *other == memory));
     }
 
     /// Reads each point of a panel by a call, 16 lines at a time.
@@ -246,9 +292,17 @@ fn main() {
         }
     }
 
-    timing.play("write, depth 8", &compiled(&bytes, &write, &pixels), RECTANGLE, None);
+    let written = compiled(&bytes, &write, &pixels);
+    timing.play("write, depth 8", &written, RECTANGLE, None);
     let write = command(2, 0xC, [4, 8, 248, 496, 0, 0, 0]);
     timing.play("write, depth 16", &compiled(&words, &write, &pixels), RECTANGLE, None);
+
+    let fills: Vec<u8> = (0..64)
+        .flat_map(|i| command(0, 0, [i % 8 * 50 + i, i / 8 * 50 + i, 8, 8, 0, 0, i]))
+        .collect();
+    let fills = compiled(&bytes, &fills, &[]).repeat(16);
+    timing.play_in_blocks("a stream of small fills", &fills);
+    timing.play_in_blocks("a stream of writes", &written);
 
     let settings = Settings {
         depth: 2,
