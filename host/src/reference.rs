@@ -621,9 +621,11 @@ pub(crate) fn words_in(records: &[u8], most: usize) -> usize {
     records.chunks_exact(8).take(most).take_while(good).count()
 }
 
-/// The last six screen values and the blits of a stream, each with the place of its data records;
-/// or refusal 19 to 23.
-fn check(stream: &[u8]) -> Result<([u32; 6], Vec<(Blit, usize)>), Refusal> {
+/// The last six screen values, and the blits, each with the place where its data records begin.
+type Checked = ([u32; 6], Vec<(Blit, usize)>);
+
+/// What a stream holds, or refusal 19 to 23.
+fn check(stream: &[u8]) -> Result<Checked, Refusal> {
     if stream.len() % 8 != 0 {
         return Err((19, 0));
     }

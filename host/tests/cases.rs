@@ -184,11 +184,14 @@ fn odd_lines() {
     }
 }
 
+/// Number and value.
+type Record = (u32, u32);
+
 fn record(number: u32, value: u32) -> Vec<u8> {
     [number.to_le_bytes(), value.to_le_bytes()].concat()
 }
 
-fn records(records: &[(u32, u32)]) -> Vec<u8> {
+fn records(records: &[Record]) -> Vec<u8> {
     records.iter().flat_map(|&(number, value)| record(number, value)).collect()
 }
 
@@ -351,7 +354,7 @@ fn words_in_blocks() {
 fn refused_records() {
     // A number, what comes before the record, and the record itself.
     let due = [(0x8008, 0), (0x8000, 1)];
-    let cases: [(u32, &[(u32, u32)], (u32, u32)); 9] = [
+    let cases: [(u32, &[Record], Record); 9] = [
         (20, &[], (0x48, 0)),
         (21, &[], (0x44, 0x400)),
         (21, &[], (0x10000, 0x1_0000)),

@@ -8,13 +8,15 @@ ghost use Rattle.compiler.specs.Compile.{compiling, bufferAfter};
 ghost use Rattle.chip.specs.Play.{playing, played};
 ghost use Rattle.reader.specs.Read.{reading};
 ghost use Rattle.unit.specs.Draw.{drawing, streamDrawn, memoryDrawn};
-ghost use Rattle.serial.specs.Serial.{answerOf};
+ghost use Rattle.serial.specs.State.{newPlayer};
+ghost use Rattle.serial.specs.Serial.{feeding, endedPlayer, endAnswer, answerOf};
 ghost use Rattle.s1d.specs.Answers.{compiledOf, displayWith, pointOf, drawnOf};
 use chip::Played;
 use compiler::Compiled;
 use reader::Display;
 use reader::PointAnswer;
 use serial::Answer;
+use serial::Player;
 use unit::Drawn;
 
 // What compiling gives back, and where the refused command stands in the list.
@@ -165,4 +167,35 @@ pub extern "C" fn s1d_draw(
             values: [0, 0, 0, 0, 0, 0],
         },
     }
+}
+
+// A player that has read nothing.
+#[no_mangle]
+pub extern "C" fn s1d_new_player() -> Player
+    ensures { λ r. ⌜ r ≡ newPlayer ⌝ }
+{
+    serial_code::new_player()
+}
+
+// Feeds a player a block of the stream, in place.
+#[no_mangle]
+pub extern "C" fn s1d_feed(player: &mut Player, block: &[u8], memory: &mut [u8]) -> Answer
+    ensures { λ r. ⌜ r ≡ answerOf (feeding memorySize (now (player .entry)) (now (block .entry)) (now (memory .entry)) .answer) ⌝ }
+    ensures { λ r. ⌜ now (player .exit) ≡ feeding memorySize (now (player .entry)) (now (block .entry)) (now (memory .entry)) .player ⌝ }
+    ensures { λ r. ⌜ now (memory .exit) ≡ feeding memorySize (now (player .entry)) (now (block .entry)) (now (memory .entry)) .memory ⌝ }
+{
+    let next = serial_code::take_block(*player, block, memory);
+    *player = next.player;
+    next.answer
+}
+
+// Ends the stream, in place.
+#[no_mangle]
+pub extern "C" fn s1d_end(player: &mut Player) -> Answer
+    ensures { λ r. ⌜ r ≡ answerOf (endAnswer (now (player .entry))) ⌝ }
+    ensures { λ r. ⌜ now (player .exit) ≡ endedPlayer (now (player .entry)) ⌝ }
+{
+    let next = serial_code::take_end(*player);
+    *player = next.player;
+    next.answer
 }

@@ -14,9 +14,9 @@ use Rattle.record.specs.Bytes.{over}
 use Rattle.screen.specs.Values.{sixValues, valuesWith}
 use Rattle.screen.specs.Narrow.{Narrow}
 use Rattle.screen.proofs.Values.{six-back}
-use Rattle.chip.specs.Play.{refusedBy}
+use Rattle.chip.specs.Play.{Playing, refusedBy}
 use Rattle.serial.specs.State.{State, placeBy, playerOf}
-use Rattle.serial.specs.Serial.{keptBy, answerOf}
+use Rattle.serial.specs.Serial.{Stage, keptBy, Feeding, fedWith, answerOf, fedOf}
 use Rattle.serial.specs.declared.Player.{Player}
 use Rattle.serial.specs.declared.Answer.{Answer}
 use Rattle.serial.specs.declared.Taking.{Taking}
@@ -113,3 +113,24 @@ narrow-given xs p =
       x = words-below xs p 4;
       y = words-below xs p 5;
     }
+
+-- ---- what a block gives back
+
+module _ (f : Feeding) where
+  -- a call that changes nothing
+  pub fed-same : (p : Player) (a : Playing) (x : Answer) (old : List ℕ) → f ≡ record { answer = a; player = p; memory = old } → x ≡ answerOf a
+      → (record { player = p; answer = x } ≡ fedOf (f .player) (f .answer)) × (old ≡ f .memory)
+  unfolding fedOf
+  fed-same p a x old e is =
+      (ap (λ (y : Answer). record { player = p; answer = y }) is ∙ (λ t. fedOf (sym e t .player) (sym e t .answer)), λ t. sym e t .memory)
+
+  -- bytes that were taken
+  pub fed-bytes : (g : Stage) (p : Player) (x : Answer) (new : List ℕ) → f ≡ fedWith g → p ≡ playerOf (g .state) → x ≡ answerOf (refusedBy (p .number) (p .place)) → new ≡ g .memory
+      → (record { player = p; answer = x } ≡ fedOf (f .player) (f .answer)) × (new ≡ f .memory)
+  unfolding fedOf fedWith playerOf
+  fed-bytes g p x new e is ans mem = (
+    (λ t. record { player = p; answer = ans t })
+        ∙ (λ t. record { player = is t; answer = answerOf (refusedBy (is t .number) (is t .place)) })
+        ∙ (λ t. fedOf (sym e t .player) (sym e t .answer)),
+    mem ∙ (λ t. sym e t .memory),
+  )

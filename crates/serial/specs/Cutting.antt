@@ -10,10 +10,10 @@ use Rattle.record.specs.Record.{recordsOf}
 use Rattle.record.specs.declared.Record.{Record}
 use Rattle.screen.specs.Screen.{memorySize}
 use Rattle.chip.specs.Admit.{refusal, chipAfter}
-use Rattle.chip.specs.Play.{newChip, run, applied, Playing, playing, played}
+use Rattle.chip.specs.Play.{newChip, run, applied, playing, played}
 use Rattle.chip.specs.declared.Chip.{Chip}
 use Rattle.serial.specs.State.{mostRecords, chipOf, newPlayer}
-use Rattle.serial.specs.Serial.{blockRows, keptBy, Feeding, feeding, endedPlayer, endAnswer}
+use Rattle.serial.specs.Serial.{blockRows, keptBy, feeding, endedPlayer, endAnswer}
 use Rattle.serial.specs.declared.Player.{Player}
 
 -- the stream that blocks are cut from

@@ -5,7 +5,7 @@
 //!
 //! Inputs are numbered from FIRST (0); each is made from the seed and its number alone, so
 //! `compare 1 SEED NUMBER` repeats one. Ends with status 1 on a difference, or where a refusal
-//! number was never seen.
+//! number was never seen, or not by `feed` and `end` where they give it.
 
 use std::fmt::{Debug, Write};
 use std::process::ExitCode;
@@ -349,7 +349,7 @@ impl Bench {
             calls.push(call);
             let input = || serial_text(&begun, &bytes, &calls, pool_at);
             let look = stream.len() <= 2_000 || rng.one_in(64);
-            let answer = self.call(call, &bytes, &mut players, look, &input)?;
+            let answer = self.call(call, &bytes, &mut players, look, input)?;
             // What a state keeps is any number.
             if begun.kept == 0 {
                 self.seen[if end { END } else { FEED }][answer.number as usize] += 1;
