@@ -125,9 +125,9 @@ fn take_records(player: &mut Player, mut records: &[u8], memory: &mut [u8]) -> R
 fn take_words(player: &mut Player, records: &[u8], memory: &mut [u8]) -> usize {
     let blit = Blit::new(Kind::Write, &player.registers, player.registers[CONTROL]);
     let (line, word, words) = (usize::from(player.line), usize::from(player.word), blit.words());
-    // No stream leads past a line's end, but a state may stand there: the word is then one pixel.
+    // No stream leads past a line's end, but a state may stand there: the word then draws nothing.
     let left = words.saturating_sub(word).max(1);
-    let left_bytes = blit.line.saturating_sub(2 * word).max(blit.pixel);
+    let left_bytes = blit.line.saturating_sub(2 * word);
     let taken = words_in(records, left);
     if taken == 0 {
         return 0;

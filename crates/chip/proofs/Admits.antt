@@ -114,3 +114,17 @@ pub data-after : (c : Chip) (r : Record) → r .number ≡ 0x10000
     → _≡_ {A = Chip} (record { screen = c .screen; blit = c .blit; due = dueAfter (c .blit) (c .due) }) (chipAfter c r)
 unfolding chipAfter screenAfter blitAfter
 data-after c r e = simp e
+
+-- ---- a register write
+
+-- one that starts nothing
+pub plain-refusal : (m : ℕ) (c : Chip) (r : Record) → isData r ≡ false → starts r ≡ false
+    → firstOf (row 20 (not (listed (r .number))) ∷ row 21 (not (fits (r .number) (r .value))) ∷ row 22 false ∷ row 23 (c .due .any) ∷ []) ≡ refusal m c r
+unfolding refusal admitRows
+plain-refusal m c r d s = simp (d, s, or-none)
+
+-- a start
+pub start-refusal : (m : ℕ) (c : Chip) (r : Record) → isData r ≡ false → starts r ≡ true
+    → firstOf (row 20 (not (listed (r .number))) ∷ row 21 (not (fits (r .number) (r .value)) || not (startable (written c r))) ∷ row 22 (not (within m (written c r))) ∷ row 23 (c .due .any) ∷ []) ≡ refusal m c r
+unfolding refusal admitRows
+start-refusal m c r d s = simp (d, s)

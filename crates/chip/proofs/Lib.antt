@@ -7,3 +7,4 @@ pub mod Commands
 pub mod Cases
 pub mod Starts
 pub mod Lengths
+pub mod Screens

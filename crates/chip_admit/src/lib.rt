@@ -261,12 +261,15 @@ fn register_refusal(memory: u64, c: Chip, r: Record) -> u32
     ensures { λ x. ⌜ x ≡ refusal memory c r ⌝ }
 {
     let d = c.due;
-    let start = starts_blit(r);
-    let next = blit_after(c.blit, r.number, r.value);
     let listed = !is_listed(r.number);
-    let value = !in_field(r.number, r.value) | (start & !is_startable(next));
-    let reach = start & !is_within(memory, next);
-    first_fault(listed, value, reach, d.any)
+    let value = !in_field(r.number, r.value);
+    if !starts_blit(r) {
+        return first_fault(listed, value, false, d.any);
+    }
+    let next = blit_after(c.blit, r.number, r.value);
+    let operation = !is_startable(next);
+    let reach = !is_within(memory, next);
+    first_fault(listed, value | operation, reach, d.any)
 }
 
 // 0, or why a record is refused, in a memory of so many bytes.
@@ -377,12 +380,12 @@ pub fn new_chip() -> Chip
     Chip { screen, blit, due }
 }
 
-// The first pass: admits the records of a stream in order, on registers and sizes alone.
-pub fn check(memory: u64, stream: &[u8]) -> Run
-    ensures { λ r. ⌜ r ≡ run memory newChip 0 (recordsOf (now (stream .entry))) ⌝ }
+// The first pass: admits the records of a stream in order, from a chip on, on registers and sizes alone.
+pub fn check(memory: u64, start: Chip, stream: &[u8]) -> Run
+    ensures { λ r. ⌜ r ≡ run memory start 0 (recordsOf (now (stream .entry))) ⌝ }
 {
     let count = stream.len() / 8;
-    let mut chip = new_chip();
+    let mut chip = start;
     let mut i = 0;
     while i < count {
         let r = record_code::record_at(stream, i);

@@ -1,17 +1,17 @@
 // Playing a stream over a lent display memory: what each record does to it.
 ghost use mathlib.Core.Path.{_≡_};
 ghost use mathlib.Core.Bool.{true};
-ghost use Prim.Native.Nat.{_+_, _*_, _^_, _≤_, _<_};
+ghost use Prim.Native.Nat.{_+_, _*_, _/_, _^_, _≤_, _<_};
 ghost use lib.ListN.{length, getD, set};
 ghost use Rattle.pixel.specs.Pixel.{getPixel, putPixel};
-ghost use Rattle.record.specs.Record.{recordsOf};
+ghost use Rattle.record.specs.Record.{recordsFrom};
 ghost use Rattle.blit.specs.Blit.{pixels};
 ghost use Rattle.blit.specs.Job.{mixOf};
 ghost use Rattle.blit.specs.Words.{perWord, wordPixel, chipWord};
 ghost use Rattle.screen.specs.Screen.{memorySize};
 ghost use Rattle.chip.specs.Start.{startable, within, mixBy, fromBy, jobOf, writeOf, started};
 ghost use Rattle.chip.specs.Admit.{refusal, effect};
-ghost use Rattle.chip.specs.Play.{newChip, run, applied, playing, played, playingOf, answerOf};
+ghost use Rattle.chip.specs.Play.{run, applied, playing, played, playingOf, answerOf};
 use blit::From;
 use blit::Job;
 use blit::Mix;
@@ -169,7 +169,7 @@ fn write_word(b: Registers, d: Due, value: u32, memory: &mut [u8])
 }
 
 // What a record that is not refused does to the memory, of any chip.
-pub fn apply(c: Chip, r: Record, memory: &mut [u8])
+fn apply(c: Chip, r: Record, memory: &mut [u8])
     requires { ⌜ (refusal memorySize c r ≡ 0) × (length (now memory) ≡ memorySize) ⌝ }
     ensures { λ _. ⌜ now (memory .exit) ≡ effect c r (now (memory .entry)) ⌝ }
 {
@@ -186,13 +186,12 @@ pub fn apply(c: Chip, r: Record, memory: &mut [u8])
     start(next, memory);
 }
 
-// The second pass: applies the records of a stream, all of which are admitted.
-fn perform_all(stream: &[u8], memory: &mut [u8])
-    requires { ⌜ (run memorySize newChip 0 (recordsOf (now stream)) .number ≡ 0) × (length (now memory) ≡ memorySize) ⌝ }
-    ensures { λ _. ⌜ now (memory .exit) ≡ applied newChip (recordsOf (now (stream .entry))) (now (memory .entry)) ⌝ }
+// The second pass: applies the first records of a stream, which are admitted, from a chip on.
+pub fn perform_all(start: Chip, stream: &[u8], count: usize, memory: &mut [u8])
+    requires { ⌜ (count ≤ length (now stream) / 8) × (run memorySize start 0 (recordsFrom (now stream) 0 count) .number ≡ 0) × (length (now memory) ≡ memorySize) ⌝ }
+    ensures { λ _. ⌜ now (memory .exit) ≡ applied start (recordsFrom (now (stream .entry)) 0 count) (now (memory .entry)) ⌝ }
 {
-    let count = stream.len() / 8;
-    let mut chip = chip_admit::new_chip();
+    let mut chip = start;
     let mut i = 0;
     while i < count {
         let r = record_code::record_at(stream, i);
@@ -218,7 +217,8 @@ pub fn play(stream: &[u8], memory: &mut [u8]) -> Played
     if stream.len() % 8 != 0 {
         return Played::Refused(19, 0);
     }
-    let r = chip_admit::check(MEMORY_SIZE, stream);
+    let start = chip_admit::new_chip();
+    let r = chip_admit::check(MEMORY_SIZE, start, stream);
     if r.number != 0 {
         return Played::Refused(r.number, r.place);
     }
@@ -227,7 +227,7 @@ pub fn play(stream: &[u8], memory: &mut [u8]) -> Played
     if due.any {
         return Played::Refused(23, stream.len() as u64 / 8);
     }
-    perform_all(stream, memory);
+    perform_all(start, stream, stream.len() / 8, memory);
     let screen = chip.screen;
     Played::Accepted(screen)
 }

@@ -1,25 +1,22 @@
 -- The screen values that playing and drawing give lie in their fields, and so fit 32 bits.
-use Prim.Native.Nat.{ℕ, suc, _/_, _%_, _<_, _≤_}
-use mathlib.Core.Path.{_≡_, sym, subst}
-use mathlib.Core.List.{List, [], _∷_}
-use mathlib.Core.Bool.{true, not, cond}
+use Prim.Native.Nat.{ℕ, _/_, _%_, _<_, _≤_}
+use mathlib.Core.List.{List}
+use mathlib.Core.Bool.{not}
 use native.Mathlib.Omega.{arith}
 use lib.Dec.{eqb}
 use lib.ListN.{length}
-use borrow.Author.Tests.{eqb-true, leb-true, not-false}
+use borrow.Author.Tests.{eqb-true, leb-true}
 use Rattle.record.specs.Record.{recordsOf}
 use Rattle.record.proofs.Choice.{both-ways}
 use Rattle.record.specs.declared.Record.{Record}
 use Rattle.screen.specs.declared.ScreenValues.{ScreenValues}
 use Rattle.screen.specs.Narrow.{Narrow}
 use Rattle.screen.proofs.Fits.{EdgesFit, InFields, edges-say, values-fit}
-use Rattle.chip.specs.Register.{fits, screenAfter}
-use Rattle.chip.specs.Admit.{chipAfter}
+use Rattle.chip.specs.Register.{fits}
 use Rattle.chip.specs.Play.{noValues, newChip, run, Playing, ending, playing}
 use Rattle.chip.specs.declared.Chip.{Chip}
 use Rattle.chip.specs.declared.Run.{Run}
-use Rattle.chip.proofs.Runs.{run-end, run-taken, admitted}
-use Rattle.chip.proofs.Admits.{admits}
+use Rattle.chip.proofs.Screens.{Each, each-run}
 use Rattle.command.specs.Task.{Task, screenIn}
 use Rattle.compiler.specs.Compile.{compiling}
 use Rattle.compiler.proofs.Accepted.{compiled-says}
@@ -45,38 +42,33 @@ nothing-fits =
       y = record { start = omega arith; end = omega arith };
     }
 
--- ---- one record
--- a register that is written, or kept
-written : (P : ℕ → Type 0) (n k v old : ℕ) → fits n v ≡ true → (fits k v ≡ true → P v) → P old → P (cond (eqb n k) v old)
-written P n k v old h f g = both-ways P (eqb n k) v old (λ e. f (subst (λ (x : ℕ). fits x v ≡ true) (eqb-true n k e) h)) (λ e. g)
+-- ---- a stream
+abbrev FieldsFit : ScreenValues → Type 0
+FieldsFit = Each (λ (v : ℕ). v < 65536) (λ (v : ℕ). v < 1024) EdgesFit
 
-after-fits : (s : ScreenValues) (n v : ℕ) → InFields s → fits n v ≡ true → InFields (screenAfter s n v)
-unfolding screenAfter fits
-after-fits s n v f h =
+each-fits : (v : ScreenValues) → InFields v → FieldsFit v
+each-fits v f =
     record {
-      main = record {
-        start = written (λ (x : ℕ). x < 65536) n 0x40 v (s .main .start) h (λ e. omega (arith, leb-true v 0xFFFF e)) (f .main .start);
-        offset = written (λ (x : ℕ). x < 1024) n 0x44 v (s .main .offset) h (λ e. omega (arith, leb-true v 0x3FF e)) (f .main .offset);
-      };
-      window = record {
-        start = written (λ (x : ℕ). x < 65536) n 0x50 v (s .window .start) h (λ e. omega (arith, leb-true v 0xFFFF e)) (f .window .start);
-        offset = written (λ (x : ℕ). x < 1024) n 0x54 v (s .window .offset) h (λ e. omega (arith, leb-true v 0x3FF e)) (f .window .offset);
-      };
-      x = written EdgesFit n 0x58 v (s .x) h (edges-say v) (f .x);
-      y = written EdgesFit n 0x5C v (s .y) h (edges-say v) (f .y);
+      main-start = f .main .start;
+      main-offset = f .main .offset;
+      window-start = f .window .start;
+      window-offset = f .window .offset;
+      x = f .x;
+      y = f .y;
     }
 
-chip-fits : (c : Chip) (r : Record) → InFields (c .screen) → fits (r .number) (r .value) ≡ true → InFields (chipAfter c r .screen)
-unfolding chipAfter
-chip-fits c r f h = after-fits (c .screen) (r .number) (r .value) f h
-
--- ---- a stream
-run-fits : (m : ℕ) (c : Chip) (i : ℕ) (rs : List Record) → InFields (c .screen) → run m c i rs .number ≡ 0 → InFields (run m c i rs .chip .screen)
-run-fits m c i [] f e = subst (λ (x : Run). InFields (x .chip .screen)) (sym (run-end m c i)) f
-run-fits m c i (r ∷ rs) f e =
-    let a = admitted m c i r rs e in
-    subst (λ (x : Run). InFields (x .chip .screen)) (sym (run-taken m c i r rs (a .0)))
-    (run-fits m (chipAfter c r) (suc i) rs (chip-fits c r f (admits m c r (a .0) .field)) (a .1))
+run-fits : (m : ℕ) (c : Chip) (i : ℕ) (rs : List Record) → InFields (c .screen) → InFields (run m c i rs .chip .screen)
+unfolding fits
+run-fits m c i rs f =
+    let e : FieldsFit (run m c i rs .chip .screen) =
+    each-run (λ (v : ℕ). v < 65536) (λ (v : ℕ). v < 1024) EdgesFit (λ v e. omega (arith, leb-true v 0xFFFF e)) (λ v e. omega (arith, leb-true v 0x3FF e)) edges-say m c i rs
+    (each-fits (c .screen) f) in
+    record {
+      main = record { start = e .main-start; offset = e .main-offset };
+      window = record { start = e .window-start; offset = e .window-offset };
+      x = e .x;
+      y = e .y;
+    }
 
 new-fits : InFields (newChip .screen)
 unfolding newChip
@@ -85,11 +77,11 @@ new-fits = nothing-fits
 abbrev Fine : Playing → Type 0
 Fine p = InFields (p .values)
 
-ending-fits : (r : Run) (n : ℕ) → (r .number ≡ 0 → InFields (r .chip .screen)) → Fine (ending r n)
+ending-fits : (r : Run) (n : ℕ) → InFields (r .chip .screen) → Fine (ending r n)
 unfolding ending
 ending-fits r n f =
     both-ways Fine (not (eqb (r .number) 0)) _ _ (λ t. nothing-fits)
-    (λ t. both-ways Fine (r .chip .due .any) _ _ (λ u. nothing-fits) (λ u. f (eqb-true (r .number) 0 (not-false _ t))))
+    (λ t. both-ways Fine (r .chip .due .any) _ _ (λ u. nothing-fits) (λ u. f))
 
 pub playing-fits : (m : ℕ) (stream memory : List ℕ) → InFields (playing m stream memory .values)
 unfolding playing

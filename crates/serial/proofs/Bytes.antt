@@ -1,12 +1,13 @@
 -- Bytes one after another are whole records, and a half-read one.
 use Prim.Native.Nat.{ℕ, suc, _+_, _-_, _*_, _/_, _≤_}
-use mathlib.Core.Path.{_≡_, refl, sym, ap, _∙_}
+use mathlib.Core.Path.{_≡_, refl, sym, ap, subst, _∙_}
 use mathlib.Core.Bool.{Bool, true, false, cond}
 use mathlib.Core.List.{List, [], _∷_, _++_}
 use native.Mathlib.Omega.{arith}
 use lib.Dec.{eqb}
-use lib.ListN.{length, drop}
+use lib.ListN.{length, take, drop}
 use borrow.Author.Tests.{ne-eqb, eqb-true, eqb-false}
+use Rattle.record.specs.Bytes.{byteAt}
 use Rattle.record.specs.Record.{recordAt, recordsFrom, recordsOf}
 use Rattle.record.specs.declared.Record.{Record}
 use Rattle.record.proofs.Records.{records-cons}
@@ -59,6 +60,30 @@ half-joined m c n old h bs l =
 
 -- ---- eight bytes
 
+-- a list of eight bytes or more
+pub record Long (s : List ℕ) : Type 0 where
+  pub b₀ : ℕ
+  pub b₁ : ℕ
+  pub b₂ : ℕ
+  pub b₃ : ℕ
+  pub b₄ : ℕ
+  pub b₅ : ℕ
+  pub b₆ : ℕ
+  pub b₇ : ℕ
+  pub rest : List ℕ
+  pub is : s ≡ b₀ ∷ b₁ ∷ b₂ ∷ b₃ ∷ b₄ ∷ b₅ ∷ b₆ ∷ b₇ ∷ rest
+
+pub long : (s : List ℕ) → 8 ≤ length s → Long s
+long (a ∷ b ∷ d ∷ e ∷ f ∷ g ∷ h ∷ i ∷ l) s = record { b₀ = a; b₁ = b; b₂ = d; b₃ = e; b₄ = f; b₅ = g; b₆ = h; b₇ = i; rest = l; is = refl }
+long [] s = absurd (omega arith)
+long (a ∷ []) s = absurd (omega arith)
+long (a ∷ b ∷ []) s = absurd (omega arith)
+long (a ∷ b ∷ d ∷ []) s = absurd (omega arith)
+long (a ∷ b ∷ d ∷ e ∷ []) s = absurd (omega arith)
+long (a ∷ b ∷ d ∷ e ∷ f ∷ []) s = absurd (omega arith)
+long (a ∷ b ∷ d ∷ e ∷ f ∷ g ∷ []) s = absurd (omega arith)
+long (a ∷ b ∷ d ∷ e ∷ f ∷ g ∷ h ∷ []) s = absurd (omega arith)
+
 -- eight bytes are a record, and what is behind them comes after it
 eight : (m : ℕ) (c : Chip) (n : ℕ) (old : List ℕ) (a b d e f g h i : ℕ) (l : List ℕ) → let bs = a ∷ b ∷ d ∷ e ∷ f ∷ g ∷ h ∷ i ∷ l in
     bytesTaken m (stageAt c n old) bs ≡ bytesTaken m (recordTaken m (stageAt c n old) (recordAt bs 0)) l
@@ -67,15 +92,20 @@ eight m c n old a b d e f g h i l = refl
 
 pub first-record : (m : ℕ) (c : Chip) (n : ℕ) (old bs : List ℕ) → 8 ≤ length bs
     → bytesTaken m (stageAt c n old) bs ≡ bytesTaken m (recordTaken m (stageAt c n old) (recordAt bs 0)) (drop 8 bs)
-first-record m c n old (a ∷ b ∷ d ∷ e ∷ f ∷ g ∷ h ∷ i ∷ l) s = eight m c n old a b d e f g h i l
-first-record m c n old [] s = absurd (omega arith)
-first-record m c n old (a ∷ []) s = absurd (omega arith)
-first-record m c n old (a ∷ b ∷ []) s = absurd (omega arith)
-first-record m c n old (a ∷ b ∷ d ∷ []) s = absurd (omega arith)
-first-record m c n old (a ∷ b ∷ d ∷ e ∷ []) s = absurd (omega arith)
-first-record m c n old (a ∷ b ∷ d ∷ e ∷ f ∷ []) s = absurd (omega arith)
-first-record m c n old (a ∷ b ∷ d ∷ e ∷ f ∷ g ∷ []) s = absurd (omega arith)
-first-record m c n old (a ∷ b ∷ d ∷ e ∷ f ∷ g ∷ h ∷ []) s = absurd (omega arith)
+first-record m c n old bs s =
+    let e = long bs s in
+    subst (λ (x : List ℕ). bytesTaken m (stageAt c n old) x ≡ bytesTaken m (recordTaken m (stageAt c n old) (recordAt x 0)) (drop 8 x)) (sym (e .is))
+    (eight m c n old (e .b₀) (e .b₁) (e .b₂) (e .b₃) (e .b₄) (e .b₅) (e .b₆) (e .b₇) (e .rest))
+
+-- the first eight bytes, one by one, and the one record that they are
+pub first-eight : (s : List ℕ) → 8 ≤ length s
+    → byteAt s 0 ∷ byteAt s 1 ∷ byteAt s 2 ∷ byteAt s 3 ∷ byteAt s 4 ∷ byteAt s 5 ∷ byteAt s 6 ∷ byteAt s 7 ∷ [] ≡ take 8 s
+first-eight s h =
+    subst (λ (x : List ℕ). byteAt x 0 ∷ byteAt x 1 ∷ byteAt x 2 ∷ byteAt x 3 ∷ byteAt x 4 ∷ byteAt x 5 ∷ byteAt x 6 ∷ byteAt x 7 ∷ [] ≡ take 8 x) (sym (long s h .is)) refl
+
+pub one-record : (s : List ℕ) → 8 ≤ length s → recordsOf (take 8 s) ≡ recordAt s 0 ∷ []
+unfolding recordsOf recordsFrom recordAt
+one-record s h = subst (λ (x : List ℕ). recordsOf (take 8 x) ≡ recordAt x 0 ∷ []) (sym (long s h .is)) refl
 
 -- ---- all records, and what is left
 

@@ -1,5 +1,5 @@
 -- The half-read record with the bytes of a block behind it, as the code puts them together.
-use Prim.Native.Nat.{ℕ, _+_, _-_, _*_, _≤_, _<_}
+use Prim.Native.Nat.{ℕ, _+_, _-_, _≤_, _<_}
 use mathlib.Core.Path.{_≡_, sym, ap, _∙_}
 use mathlib.Core.List.{List, _++_}
 use native.Mathlib.Nat.{zero-add}
@@ -7,14 +7,7 @@ use native.Mathlib.Numerals.{add-one}
 use native.Mathlib.Omega.{arith}
 use lib.ListN.{length, take, drop, set, replicate, length-append, List·getD-append}
 use lib.Seq.{paste, paste-zero, paste-suc, getD-take, getD-append-add, length-take-le, take-length}
-use Rattle.record.specs.Bytes.{byteAt, u32At, over}
-
--- the number in four bytes
-pub four-bytes : (s : List ℕ) (at a b c d : ℕ) → a ≡ byteAt s at → b ≡ byteAt s (at + 1) → c ≡ byteAt s (at + 2) → d ≡ byteAt s (at + 3)
-    → a + 256 * b + 65536 * (c + 256 * d) ≡ u32At s at
-four-bytes s at a b c d p q r f =
-    let e : at + 3 ≡ at + 2 + 1 = omega arith in
-    λ t. p t + 256 * q t + 65536 * (r t + 256 * (f ∙ ap (byteAt s) e) t)
+use Rattle.record.specs.Bytes.{byteAt, over}
 
 module _ (half block : List ℕ) (held : ℕ) (h : held ≤ length half) where
   abbrev both : List ℕ

@@ -1,7 +1,7 @@
 -- The bytes of a block as the code takes them: a half-read record that the block does or does not make whole, whole records, and what is left.
 use Prim.Native.Nat.{ℕ, _+_, _-_, _*_, _/_, _≤_}
-use mathlib.Core.Path.{_≡_, sym, ap, _∙_}
-use mathlib.Core.List.{List, _++_}
+use mathlib.Core.Path.{_≡_, refl, sym, ap, _∙_}
+use mathlib.Core.List.{List, [], _++_}
 use native.Mathlib.Omega.{arith}
 use lib.ListN.{length, take, drop, replicate, length-append, length-drop}
 use lib.Seq.{length-take-le, take-all, take-append-seam, drop-append-add}
@@ -15,7 +15,8 @@ use Rattle.serial.specs.Serial.{Stage, recordTaken, bytesTaken}
 use Rattle.serial.specs.Taking.{stageAt, stageOf, recordsTaken}
 use Rattle.serial.specs.declared.Player.{Player}
 use Rattle.serial.specs.declared.Taking.{Taking}
-use Rattle.serial.proofs.Bytes.{bytes-dropped, halfway, half-first, half-joined, first-record, leftOver, withHalf, rest-taken}
+use Rattle.serial.proofs.Taken.{records-taken, records-end}
+use Rattle.serial.proofs.Bytes.{bytes-dropped, halfway, half-first, half-joined, first-record, one-record, leftOver, withHalf, rest-taken}
 
 -- records on the way of which none was refused
 pub on-the-way : (t : Taking) (memory : List ℕ) → t .number ≡ 0 → stageOf t memory ≡ stageAt (t .chip) (t .count) memory
@@ -102,16 +103,20 @@ module _ (m : ℕ) (p : Player) (old block : List ℕ) (c : Chip) (chip : c ≡ 
     pub half-array : (half : List ℕ) → half ≡ over (held-bytes ++ block) (replicate 7 0) → half ≡ over (take (held + length block) half) (replicate 7 0)
     half-array half e = over-itself (held-bytes ++ block) half e ∙ ap (λ (k : ℕ). over (take k half) (replicate 7 0)) joined-is
 
-    -- it makes the record r, which gives t; the rest of the block comes behind it
-    module _ (many : 8 ≤ held + length block) (r : Record) (whole : r ≡ recordAt (held-bytes ++ block) 0) (t : Taking) (new : List ℕ)
-        (taken : stageOf t new ≡ recordTaken m (stageAt c (p .count) old) r) where
+    -- it makes a record, which gives t; the rest of the block comes behind it
+    module _ (many : 8 ≤ held + length block) (first : List ℕ) (whole : first ≡ take 8 (held-bytes ++ block)) (t : Taking) (new : List ℕ)
+        (taken : stageOf t new ≡ recordsTaken m (stageAt c (p .count) old) (recordsOf first)) where
       after-record : bytesTaken m (stageOf t new) (drop (8 - held) block) ≡ fed
       after-record =
+          let l : 8 ≤ length (held-bytes ++ block) = omega (arith, joined-is) in
+          let r : Record = recordAt (held-bytes ++ block) 0 in
           let e : length held-bytes + (8 - held) ≡ 8 = omega (arith, held-is) in
           let rest : drop (8 - held) block ≡ drop 8 (held-bytes ++ block) = sym (ap (λ (k : ℕ). drop k (held-bytes ++ block)) (sym e) ∙ drop-append-add held-bytes block (8 - held)) in
-          (λ u. bytesTaken m ((taken ∙ ap (recordTaken m (stageAt c (p .count) old)) whole) u) (rest u))
-          ∙ sym (first-record m c (p .count) old (held-bytes ++ block) (omega (arith, joined-is)))
-          ∙ behind
+          let one : stageOf t new ≡ recordTaken m (stageAt c (p .count) old) r =
+          taken ∙ ap (λ (s : List ℕ). recordsTaken m (stageAt c (p .count) old) (recordsOf s)) whole
+          ∙ ap (recordsTaken m (stageAt c (p .count) old)) (one-record (held-bytes ++ block) l)
+          ∙ records-taken m (stageAt c (p .count) old) r [] refl ∙ records-end m (recordTaken m (stageAt c (p .count) old) r) in
+          (λ u. bytesTaken m (one u) (rest u)) ∙ sym (first-record m c (p .count) old (held-bytes ++ block) l) ∙ behind
 
       pub whole-refused : (t .number ≡ 0 → ⊥) → stageOf t new ≡ fed
       whole-refused h = sym (bytes-dropped m (stageOf t new) (drop (8 - held) block) h) ∙ after-record

@@ -1,20 +1,22 @@
 // A player that is fed a stream in small blocks, and ended.
 ghost use mathlib.Core.Path.{_≡_};
 ghost use mathlib.Core.List.{[], _++_};
-ghost use Prim.Native.Nat.{_+_, _≤_, _<_};
+ghost use mathlib.Core.Bool.{cond};
+ghost use Prim.Native.Nat.{_+_, _≤_, _<_, min};
+ghost use lib.Dec.{eqb};
 ghost use lib.ListN.{length, take, replicate};
-ghost use Rattle.record.specs.Bytes.{byteAt, u32At, over};
-ghost use Rattle.record.specs.Record.{recordAt, recordsOf};
+ghost use Rattle.record.specs.Bytes.{byteAt, over};
+ghost use Rattle.record.specs.Record.{recordsOf};
 ghost use Rattle.screen.specs.Screen.{memorySize};
 ghost use Rattle.screen.specs.Narrow.{Narrow};
 ghost use Rattle.chip.specs.Play.{refusedBy};
-ghost use Rattle.serial.specs.State.{counted, heldBy, chipOf, stateOf, playerOf, newPlayer};
-ghost use Rattle.serial.specs.Serial.{recordTaken, bytesTaken, keptBy, feeding, keeping, endedPlayer, endAnswer, answerOf, fedOf};
-ghost use Rattle.serial.specs.Taking.{stageAt, stageOf, recordsTaken};
+ghost use Rattle.serial.specs.State.{mostRecords, heldBy, chipOf, stateOf, playerOf, newPlayer};
+ghost use Rattle.serial.specs.Serial.{bytesTaken, keptBy, feeding, keeping, endedPlayer, endAnswer, answerOf, fedOf};
+ghost use Rattle.serial.specs.Taking.{stageOf, recordsTaken};
 use chip::Chip;
 use chip::Due;
 use chip::Registers;
-use record::Record;
+use chip::Run;
 use serial::Answer;
 use serial::Fed;
 use serial::Player;
@@ -56,14 +58,14 @@ pub fn new_player() -> Player
     }
 }
 
-// One record more, as far as the count goes.
-fn one_more(count: u64) -> u64
-    ensures { λ r. ⌜ r ≡ counted count ⌝ }
+// So many records more, as far as the count goes.
+fn more_records(count: u64, more: u64) -> u64
+    ensures { λ r. ⌜ (r ≡ min (count + more) mostRecords) × (count ≤ mostRecords) ⌝ }
 {
-    if count < MOST_RECORDS {
-        return count + 1;
+    if more <= MOST_RECORDS - count {
+        return count + more;
     }
-    count
+    MOST_RECORDS
 }
 
 // Bytes of the half-read record; a length above 7 means 7.
@@ -132,26 +134,21 @@ fn joined_byte(half: [u8; 7], held: usize, block: &[u8], i: usize) -> u8
     block[i - held]
 }
 
-// The number in four of these bytes.
-fn joined_number(half: [u8; 7], held: usize, block: &[u8], at: usize) -> u32
-    requires { ⌜ (held ≤ 7) × (at ≤ 4) × (8 ≤ held + length (now block)) ⌝ }
-    ensures { λ r. ⌜ r ≡ u32At (take held half ++ now (block .entry)) at ⌝ }
-{
-    let a = record_code::wide(joined_byte(half, held, block, at));
-    let b = record_code::wide(joined_byte(half, held, block, at + 1));
-    let c = record_code::wide(joined_byte(half, held, block, at + 2));
-    let d = record_code::wide(joined_byte(half, held, block, at + 3));
-    a + 256 * b + 65536 * (c + 256 * d)
-}
-
-// The record that the block makes whole.
-fn joined_record(half: [u8; 7], held: usize, block: &[u8]) -> Record
+// The first eight of these bytes: the record that the block makes whole.
+fn joined_record(half: [u8; 7], held: usize, block: &[u8]) -> [u8; 8]
     requires { ⌜ (held ≤ 7) × (8 ≤ held + length (now block)) ⌝ }
-    ensures { λ r. ⌜ r ≡ recordAt (take held half ++ now (block .entry)) 0 ⌝ }
+    ensures { λ r. ⌜ r ≡ take 8 (take held half ++ now (block .entry)) ⌝ }
 {
-    let number = joined_number(half, held, block, 0);
-    let value = joined_number(half, held, block, 4);
-    Record { number, value }
+    [
+        joined_byte(half, held, block, 0),
+        joined_byte(half, held, block, 1),
+        joined_byte(half, held, block, 2),
+        joined_byte(half, held, block, 3),
+        joined_byte(half, held, block, 4),
+        joined_byte(half, held, block, 5),
+        joined_byte(half, held, block, 6),
+        joined_byte(half, held, block, 7),
+    ]
 }
 
 // The half-read record with the block behind it, and zeros.
@@ -169,54 +166,31 @@ fn joined_half(half: [u8; 7], held: usize, block: &[u8]) -> [u8; 7]
     next
 }
 
-// One record: taken, with its effect on the memory, or refused.
-fn take_record(chip: Chip, count: u64, r: Record, memory: &mut [u8]) -> Taking
-    requires { ⌜ (length (now memory) ≡ memorySize) × Narrow (chip .screen) ⌝ }
-    ensures { λ t. ⌜ (stageOf t (now (memory .exit)) ≡ recordTaken memorySize (stageAt chip count (now (memory .entry))) r) × Narrow (t .chip .screen) ⌝ }
+// Records of so many that a run takes: all, or those before the refused one.
+fn taken_by(r: Run, count: usize) -> usize
+    ensures { λ n. ⌜ n ≡ cond (eqb (r .number) 0) count (r .place) ⌝ }
 {
-    let number = chip_admit::refusal_of(MEMORY_SIZE, chip, r);
-    if number != 0 {
-        return Taking {
-            chip,
-            count,
-            number,
-        };
+    if r.number == 0 {
+        return count;
     }
-    chip_code::apply(chip, r, memory);
-    let more = one_more(count);
-    if r.number == 0x10000 {
-        let next = chip_admit::word_after(chip);
-        return Taking {
-            chip: next,
-            count: more,
-            number: 0,
-        };
-    }
-    let next = chip_admit::register_after(chip, r);
-    Taking {
-        chip: next,
-        count: more,
-        number: 0,
-    }
+    r.place as usize
 }
 
-// The whole records of bytes, up to the first that is refused.
+// The whole records of bytes, up to the first that is refused: admitted, then applied.
 fn take_records(start: Taking, bytes: &[u8], memory: &mut [u8]) -> Taking
     requires { ⌜ (start .number ≡ 0) × (length (now memory) ≡ memorySize) × Narrow (start .chip .screen) ⌝ }
     ensures { λ t. ⌜ (stageOf t (now (memory .exit)) ≡ recordsTaken memorySize (stageOf start (now (memory .entry))) (recordsOf (now (bytes .entry)))) × Narrow (t .chip .screen) ⌝ }
 {
-    let count = bytes.len() / 8;
-    let mut t = start;
-    let mut i = 0;
-    while i < count {
-        let r = record_code::record_at(bytes, i);
-        t = take_record(t.chip, t.count, r, memory);
-        if t.number != 0 {
-            return t;
-        }
-        i += 1;
+    let first = start.chip;
+    let r = chip_admit::check(MEMORY_SIZE, first, bytes);
+    let taken = taken_by(r, bytes.len() / 8);
+    chip_code::perform_all(first, bytes, taken, memory);
+    let chip = r.chip;
+    Taking {
+        chip,
+        count: more_records(start.count, taken as u64),
+        number: r.number,
     }
-    t
 }
 
 // Bytes that begin with a record: the whole records, and what is left is half read.
@@ -256,8 +230,8 @@ fn take_bytes(p: Player, block: &[u8], memory: &mut [u8]) -> Player
         let more = joined_half(half, held, block);
         return player_with(start, more, (held + block.len()) as u8);
     }
-    let r = joined_record(half, held, block);
-    let t = take_record(start.chip, start.count, r, memory);
+    let whole = joined_record(half, held, block);
+    let t = take_records(start, &whole, memory);
     if t.number != 0 {
         return refused_player(t);
     }

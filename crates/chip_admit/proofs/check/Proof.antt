@@ -18,19 +18,16 @@ use Rattle.chip_admit.proofs.check.Statement.{statement}
 use Rattle.chip_admit.proofs.check.Tie as tie
 
 abbrev Inv-loop : tie.InvT-loop
-Inv-loop memory stream count chip₀ i₀ chip i = (i ≤ count) × (run memory newChip 0 (recordsOf stream) ≡ run memory chip i (recordsFrom stream i (count - i)))
+Inv-loop memory stream count chip₀ i₀ chip i = (i ≤ count) × (run memory chip₀ 0 (recordsOf stream) ≡ run memory chip i (recordsFrom stream i (count - i)))
 
 abbrev μ-loop : tie.MeasureT-loop
 μ-loop memory stream count chip₀ i₀ chip i = count - i
 
-new-chip-requires : tie.Need-new-chip-requires Inv-loop μ-loop
-new-chip-requires c κs = search needs
-
 loop-holds : tie.Need-loop-holds Inv-loop μ-loop
 unfolding recordsOf
 loop-holds c =
-    let s = c .before .before .args .stream .now in
-    (omega arith, λ t. run (c .before .before .args .memory) (sym (c .new-chip .ensures) t) 0 (recordsFrom s 0 (sym (sub-zero (length s / 8)) t)))
+    let s = c .before .args .stream .now in
+    (omega arith, λ t. run (c .before .args .memory) (c .before .args .start) 0 (recordsFrom s 0 (sym (sub-zero (length s / 8)) t)))
 
 record-at-requires : tie.Need-record-at-requires Inv-loop μ-loop
 record-at-requires c κs = omega arith
@@ -39,12 +36,12 @@ refusal-of-requires : tie.Need-refusal-of-requires Inv-loop μ-loop
 refusal-of-requires c κs = search needs
 
 -- what `refusal_of` said of record i
-is : (c : tie.After-refusal-of Inv-loop μ-loop) → c .refusal-of .result ≡ refusal (c .before .before .before .before .before .before .args .memory) (c .before .before .before .loop .chip) (recordAt (c .before .before .before .before .before .before .args .stream .now) (c .before .before .before .loop .i))
-is c = c .refusal-of .ensures ∙ ap (refusal (c .before .before .before .before .before .before .args .memory) (c .before .before .before .loop .chip)) (c .before .record-at .ensures)
+is : (c : tie.After-refusal-of Inv-loop μ-loop) → c .refusal-of .result ≡ refusal (c .before .before .before .before .before .args .memory) (c .before .before .before .loop .chip) (recordAt (c .before .before .before .before .before .args .stream .now) (c .before .before .before .loop .i))
+is c = c .refusal-of .ensures ∙ ap (refusal (c .before .before .before .before .before .args .memory) (c .before .before .before .loop .chip)) (c .before .record-at .ensures)
 
 returns : tie.Need-returns Inv-loop μ-loop
 returns c =
-    let a = c .before .before .before .before .before .before .before .args in
+    let a = c .before .before .before .before .before .before .args in
     let l = c .before .before .before .before .loop in
     let s = a .stream .now in
     let e = is (c .before) in
@@ -64,7 +61,7 @@ loop-less : tie.Need-loop-less Inv-loop μ-loop
 loop-less c = omega arith
 
 -- the chip after record i
-next : (c : tie.Joined2 Inv-loop μ-loop) → c .if2 .chip ≡ chipAfter (c .before .before .before .before .before .before .loop .chip) (recordAt (c .before .before .before .before .before .before .before .before .before .args .stream .now) (c .before .before .before .before .before .before .loop .i))
+next : (c : tie.Joined2 Inv-loop μ-loop) → c .if2 .chip ≡ chipAfter (c .before .before .before .before .before .before .loop .chip) (recordAt (c .before .before .before .before .before .before .before .before .args .stream .now) (c .before .before .before .before .before .before .loop .i))
 next c =
     let k : Chip = c .before .before .before .before .before .before .loop .chip in
     ⊎-elim (λ w. w .2 ∙ w .1 .ensures ∙ data-after k _ (w .0 .taken)) (λ w. w .2 ∙ w .1 .ensures) (c .if2 .came)
@@ -72,7 +69,7 @@ next c =
 
 loop-again : tie.Need-loop-again Inv-loop μ-loop
 loop-again c =
-    let a = c .before .before .before .before .before .before .before .before .before .args in
+    let a = c .before .before .before .before .before .before .before .before .args in
     let l = c .before .before .before .before .before .before .loop in
     let s = a .stream .now in
     let n : ℕ = length s / 8 in (
@@ -83,7 +80,7 @@ loop-again c =
 
 returns-2 : tie.Need-returns-2 Inv-loop μ-loop
 returns-2 c =
-    let a = c .before .before .before .before .args in
+    let a = c .before .before .before .args in
     let l = c .before .loop in
     let s = a .stream .now in
     let n : ℕ = length s / 8 in
@@ -97,7 +94,6 @@ check-spec =
     (tie.spec
     Inv-loop
     μ-loop
-    new-chip-requires
     loop-holds
     record-at-requires
     refusal-of-requires

@@ -1,19 +1,19 @@
--- The loop: what is left of the stream, applied to the memory so far, is the whole stream applied; and it is not refused.
+-- The loop: what is left of the records, applied to the memory so far, is all of them applied; and it is not refused.
 use mathlib.Core.Path.{_≡_, refl, sym, ap, _∙_}
 use mathlib.Core.List.{List}
 use mathlib.Core.Logic.{⊎-elim}
-use Prim.Native.Nat.{ℕ, _+_, _/_, _-_, _≤_, _<_, _^_}
+use Prim.Native.Nat.{ℕ, _+_, _-_, _≤_, _<_, _^_}
 use native.Mathlib.Nat.{sub-zero}
 use native.Mathlib.Omega.{arith}
 use borrow.Author.Needs.{needs}
 use borrow.Author.Tests.{ne-eqb}
 use lib.ListN.{length}
-use Rattle.record.specs.Record.{recordAt, recordsFrom, recordsOf}
+use Rattle.record.specs.Record.{recordAt, recordsFrom}
 use Rattle.record.specs.declared.Record.{Record}
 use Rattle.record.proofs.Records.{records-end}
 use Rattle.screen.specs.Screen.{memorySize}
 use Rattle.chip.specs.Admit.{refusal, chipAfter, effect}
-use Rattle.chip.specs.Play.{newChip, run, applied}
+use Rattle.chip.specs.Play.{run, applied}
 use Rattle.chip.specs.declared.Chip.{Chip}
 use Rattle.chip.proofs.Admits.{data-after}
 use Rattle.chip.proofs.Runs.{applied-end, applied-next, admitted-next}
@@ -21,33 +21,30 @@ use Rattle.chip_code.proofs.perform_all.Statement.{statement}
 use Rattle.chip_code.proofs.perform_all.Tie as tie
 
 abbrev Inv-loop : tie.InvT-loop
-Inv-loop stream memory₀ count chip₀ i₀ memory chip i = (i ≤ count) × (applied newChip (recordsOf stream) memory₀ ≡ applied chip (recordsFrom stream i (count - i)) memory) × (run memorySize chip i (recordsFrom stream i (count - i)) .number ≡ 0) × (length memory ≡ length memory₀)
+Inv-loop stream count memory₀ chip₀ i₀ memory chip i = (i ≤ count) × (applied chip₀ (recordsFrom stream 0 count) memory₀ ≡ applied chip (recordsFrom stream i (count - i)) memory) × (run memorySize chip i (recordsFrom stream i (count - i)) .number ≡ 0) × (length memory ≡ length memory₀)
 
 abbrev μ-loop : tie.MeasureT-loop
-μ-loop stream memory₀ count chip₀ i₀ memory chip i = count - i
-
-new-chip-requires : tie.Need-new-chip-requires Inv-loop μ-loop
-new-chip-requires c κs = search needs
+μ-loop stream count memory₀ chip₀ i₀ memory chip i = count - i
 
 loop-holds : tie.Need-loop-holds Inv-loop μ-loop
-unfolding recordsOf
 loop-holds c =
-    let s = c .before .before .before .args .stream .now in
-    let n : ℕ = length s / 8 in (
+    let s = c .before .before in
+    let a = s .args in (
       omega arith,
-      (λ t. applied (sym (c .new-chip .ensures) t) (recordsFrom s 0 (sym (sub-zero n) t)) (c .before .before .before .args .memory .now)),
-      (λ t. run memorySize (c .new-chip .ensures t) 0 (recordsFrom s 0 (sub-zero n t)) .number) ∙ c .before .before .before .pre .0,
+      (λ t. applied (a .start) (recordsFrom (a .stream .now) 0 (sym (sub-zero (a .count)) t)) (a .memory .now)),
+      (λ t. run memorySize (a .start) 0 (recordsFrom (a .stream .now) 0 (sub-zero (a .count) t)) .number) ∙ s .pre .1,
       refl,
     )
 
 record-at-requires : tie.Need-record-at-requires Inv-loop μ-loop
-record-at-requires c κs = omega arith
+record-at-requires c κs = omega (arith, c .before .before .before .before .pre .0)
 
 apply-requires : tie.Need-apply-requires Inv-loop μ-loop
 apply-requires c κs =
+    let s = c .before .before .before .before .before .before in
     let l = c .before .before .before .loop in
-    let e = admitted-next memorySize (l .chip) (c .before .before .before .before .before .before .before .args .stream .now) (l .i) _ (omega arith) (l .inv .2) in
-    (ap (refusal memorySize (l .chip)) (c .before .record-at .ensures) ∙ e .0, l .inv .3 ∙ c .before .before .before .before .before .before .before .pre .1)
+    let e = admitted-next memorySize (l .chip) (s .args .stream .now) (l .i) _ (omega arith) (l .inv .2) in
+    (ap (refusal memorySize (l .chip)) (c .before .record-at .ensures) ∙ e .0, l .inv .3 ∙ s .pre .2)
 
 word-after-requires : tie.Need-word-after-requires Inv-loop μ-loop
 word-after-requires c κs = search needs
@@ -66,7 +63,7 @@ loop-less : tie.Need-loop-less Inv-loop μ-loop
 loop-less c = omega arith
 
 -- the chip after record i
-next : (c : tie.Joined1 Inv-loop μ-loop) → c .if1 .chip ≡ chipAfter (c .before .before .before .before .before .before .before .before .loop .chip) (recordAt (c .before .before .before .before .before .before .before .before .before .before .before .before .args .stream .now) (c .before .before .before .before .before .before .before .before .loop .i))
+next : (c : tie.Joined1 Inv-loop μ-loop) → c .if1 .chip ≡ chipAfter (c .before .before .before .before .before .before .before .before .loop .chip) (recordAt (c .before .before .before .before .before .before .before .before .before .before .before .args .stream .now) (c .before .before .before .before .before .before .before .before .loop .i))
 next c =
     let k : Chip = c .before .before .before .before .before .before .before .before .loop .chip in
     ⊎-elim (λ w. w .2 ∙ w .1 .ensures ∙ data-after k _ (w .0 .taken)) (λ w. w .2 ∙ w .1 .ensures) (c .if1 .came)
@@ -74,9 +71,10 @@ next c =
 
 loop-again : tie.Need-loop-again Inv-loop μ-loop
 loop-again c =
-    let s = c .before .before .before .before .before .before .before .before .before .before .before .before .args .stream .now in
+    let a = c .before .before .before .before .before .before .before .before .before .before .before .args in
+    let s = a .stream .now in
+    let n = a .count in
     let l = c .before .before .before .before .before .before .before .before .loop in
-    let n : ℕ = length s / 8 in
     let e = admitted-next memorySize (l .chip) s (l .i) n (omega arith) (l .inv .2) in
     let done = c .before .before .before .before .apply .ensures ∙ ap (λ (x : Record). effect (l .chip) x (l .memory)) (c .before .before .before .before .before .before .record-at .ensures) in (
       omega arith,
@@ -91,9 +89,10 @@ same-length c = c .before .loop .inv .3
 
 returns : tie.Need-returns Inv-loop μ-loop
 returns c =
-    let s = c .before .before .before .before .before .args .stream .now in
+    let a = c .before .before .before .before .args in
+    let s = a .stream .now in
+    let n = a .count in
     let l = c .before .loop in
-    let n : ℕ = length s / 8 in
     let e : l .i ≡ n = omega arith in
     sym (l .inv .1 ∙ ap (λ (k : ℕ). applied (l .chip) (recordsFrom s k (n - k)) (l .memory)) e
     ∙ ap (λ (rs : List Record). applied (l .chip) rs (l .memory)) (records-end s n) ∙ applied-end (l .chip) (l .memory))
@@ -104,7 +103,6 @@ perform-all-spec =
     (tie.spec
     Inv-loop
     μ-loop
-    new-chip-requires
     loop-holds
     record-at-requires
     apply-requires

@@ -5,55 +5,40 @@ use Rattle.serial.proofs.Ways.{fed-same, fed-bytes}
 use borrow.Author.Needs.{needs}
 use Rattle.serial_code.proofs.take_block.Statement.{statement}
 use Rattle.serial_code.proofs.take_block.Tie as tie
-use Rattle.serial_code.proofs.take_block.Reads as reads
-use Rattle.serial_code.proofs.take_block.Lts as lts
-use Rattle.serial_code.proofs.answer_with.Reads as answer-with-reads
-use Rattle.serial_code.proofs.kept_answer.Reads as kept-answer-reads
-use Rattle.serial_code.proofs.take_bytes.Reads as take-bytes-reads
 
--- src/lib.rt:299:13
 kept-answer-requires : tie.Need-kept-answer-requires
 kept-answer-requires c κs = search needs
 
--- src/lib.rt:300:9
 returns : tie.Need-returns
 returns c =
     let a = c .before .before .before .before .before .args in
     fed-same _ (a .p) _ _ (a .memory .now) (block-repeats memorySize (a .p) (a .block .now) (a .memory .now) (c .before .if1 .taken)) (c .kept-answer .ensures)
 
--- src/lib.rt:303:13
 answer-with-requires : tie.Need-answer-with-requires
 answer-with-requires c κs = search needs
 
--- src/lib.rt:304:9
 returns-2 : tie.Need-returns-2
 returns-2 c =
     let a = c .before .before .before .before .before .before .args in
     fed-same _ (a .p) _ _ (a .memory .now) (block-18 memorySize (a .p) (a .block .now) (a .memory .now) (c .before .before .if1 .left) (c .before .if2 .taken)) (c .answer-with .ensures)
 
--- src/lib.rt:307:13
 answer-with-requires-2 : tie.Need-answer-with-requires-2
 answer-with-requires-2 c κs = search needs
 
--- src/lib.rt:308:9
 returns-3 : tie.Need-returns-3
 returns-3 c =
     let a = c .before .before .before .before .before .before .before .args in
     fed-same _ (a .p) _ _ (a .memory .now) (block-32 memorySize (a .p) (a .block .now) (a .memory .now) (c .before .before .before .if1 .left) (c .before .before .if2 .left) (λ l. omega arith)) (c .answer-with2 .ensures)
 
--- src/lib.rt:310:9
 take-bytes-requires : tie.Need-take-bytes-requires
 take-bytes-requires c κs = search needs
 
--- src/lib.rt:311:9
 answer-with-requires-3 : tie.Need-answer-with-requires-3
 answer-with-requires-3 c κs = search needs
 
--- src/lib.rt:294:1
 same-length : tie.Need-same-length
 same-length c = search needs
 
--- src/lib.rt:294:1
 returns-4 : tie.Need-returns-4
 returns-4 c =
     let a = c .before .before .before .before .before .before .before .before .before .before .before .args in

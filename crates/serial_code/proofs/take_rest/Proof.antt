@@ -9,26 +9,16 @@ use Rattle.serial.proofs.Rest.{part-left, few-left, over-itself, rest-refused, 
 use borrow.Author.Needs.{needs}
 use Rattle.serial_code.proofs.take_rest.Statement.{statement}
 use Rattle.serial_code.proofs.take_rest.Tie as tie
-use Rattle.serial_code.proofs.take_rest.Reads as reads
-use Rattle.serial_code.proofs.take_rest.Lts as lts
-use Rattle.serial_code.proofs.joined_half.Reads as joined-half-reads
-use Rattle.serial_code.proofs.player_with.Reads as player-with-reads
-use Rattle.serial_code.proofs.refused_player.Reads as refused-player-reads
-use Rattle.serial_code.proofs.take_records.Reads as take-records-reads
 
--- src/lib.rt:228:9
 take-records-requires : tie.Need-take-records-requires
 take-records-requires c κs = search needs
 
--- src/lib.rt:230:9
 refused-player-requires : tie.Need-refused-player-requires
 refused-player-requires c κs = search needs
 
--- src/lib.rt:230:9
 same-length : tie.Need-same-length
 same-length c = search needs
 
--- src/lib.rt:230:9
 returns : tie.Need-returns
 returns c =
     let s = c .before .before .before .before .before .before .before .before .before in
@@ -37,42 +27,33 @@ returns c =
     let g = rest-refused memorySize (a .start) (t .result) (a .memory .now) (t .last .1 .1 .0) (a .bytes .now) (s .pre .0) (t .ensures .0) (c .before .if1 .taken) in
     (c .refused-player .ensures ∙ ap (λ (x : Stage). playerOf (x .state)) g, ap (λ (x : Stage). x .memory) g)
 
--- src/lib.rt:232:14
 mul-at : tie.Need-mul-at
 mul-at c = search needs
 
--- src/lib.rt:233:16
 sub-rest : tie.Need-sub-rest
 sub-rest c = search needs
 
--- src/lib.rt:233:16
 part-rest-start : tie.Need-part-rest-start
 part-rest-start c = search needs
 
--- src/lib.rt:233:16
 part-rest-end : tie.Need-part-rest-end
 part-rest-end c = search needs
 
--- src/lib.rt:234:9
 joined-half-requires : tie.Need-joined-half-requires
 joined-half-requires c κs = search needs
 
--- src/lib.rt:235:26
 cast-player-with : tie.Need-cast-player-with
 cast-player-with c = search needs
 
--- src/lib.rt:235:5
 player-with-requires : tie.Need-player-with-requires
 player-with-requires c κs =
     let b = c .before .before .before .before .before .before .before .before .before .before .args .bytes .now in
     let e = part-left b (length b / 8 * 8) in
     (omega (arith, few-left b, ap length e), over-itself (take (length b - length b / 8 * 8) (drop (length b / 8 * 8) b)) _ (c .joined-half .ensures), c .before .before .before .before .before .before .take-records .ensures .1)
 
--- src/lib.rt:223:1
 same-length-2 : tie.Need-same-length-2
 same-length-2 c = search needs
 
--- src/lib.rt:223:1
 returns-2 : tie.Need-returns-2
 returns-2 c =
     let s = c .before .before .before .before .before .before .before .before .before .before .before in
