@@ -174,7 +174,7 @@ pub extern "C" fn s1d_draw(
 pub extern "C" fn s1d_new_player() -> Player
     ensures { λ r. ⌜ r ≡ newPlayer ⌝ }
 {
-    serial_code::new_player()
+    serial_state::new_player()
 }
 
 // Feeds a player a block of the stream, in place.

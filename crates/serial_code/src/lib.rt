@@ -1,21 +1,16 @@
 // A player that is fed a stream in small blocks, and ended.
 ghost use mathlib.Core.Path.{_≡_};
-ghost use mathlib.Core.List.{[], _++_};
 ghost use mathlib.Core.Bool.{cond};
-ghost use Prim.Native.Nat.{_+_, _≤_, _<_, min};
+ghost use Prim.Native.Nat.{_+_, _≤_, min};
 ghost use lib.Dec.{eqb};
-ghost use lib.ListN.{length, take, replicate};
-ghost use Rattle.record.specs.Bytes.{byteAt, over};
+ghost use lib.ListN.{length};
 ghost use Rattle.record.specs.Record.{recordsOf};
 ghost use Rattle.screen.specs.Screen.{memorySize};
 ghost use Rattle.screen.specs.Narrow.{Narrow};
 ghost use Rattle.chip.specs.Play.{refusedBy};
-ghost use Rattle.serial.specs.State.{mostRecords, heldBy, chipOf, stateOf, playerOf, newPlayer};
+ghost use Rattle.serial.specs.State.{mostRecords, stateOf, playerOf};
 ghost use Rattle.serial.specs.Serial.{bytesTaken, keptBy, feeding, keeping, endedPlayer, endAnswer, answerOf, fedOf};
 ghost use Rattle.serial.specs.Taking.{stageOf, recordsTaken};
-use chip::Chip;
-use chip::Due;
-use chip::Registers;
 use chip::Run;
 use serial::Answer;
 use serial::Fed;
@@ -28,36 +23,6 @@ const MEMORY_SIZE: u64 = 262144;
 // The largest record count.
 const MOST_RECORDS: u64 = 18446744073709551615;
 
-// A player that has read nothing.
-pub fn new_player() -> Player
-    ensures { λ r. ⌜ r ≡ newPlayer ⌝ }
-{
-    let blit = Registers {
-        control: 0,
-        command: 0,
-        source: 0,
-        destination: 0,
-        offset: 0,
-        width: 0,
-        height: 0,
-        background: 0,
-        foreground: 0,
-    };
-    Player {
-        values: [0; 6],
-        blit,
-        due: 0,
-        line: 0,
-        word: 0,
-        half: [0; 7],
-        held: 0,
-        count: 0,
-        kept: 0,
-        number: 0,
-        place: 0,
-    }
-}
-
 // So many records more, as far as the count goes.
 fn more_records(count: u64, more: u64) -> u64
     ensures { λ r. ⌜ (r ≡ min (count + more) mostRecords) × (count ≤ mostRecords) ⌝ }
@@ -66,104 +31,6 @@ fn more_records(count: u64, more: u64) -> u64
         return count + more;
     }
     MOST_RECORDS
-}
-
-// Bytes of the half-read record; a length above 7 means 7.
-fn held_by(p: Player) -> usize
-    ensures { λ r. ⌜ (r ≡ heldBy p) × (r ≤ 7) ⌝ }
-{
-    record_code::least(p.held as usize, 7)
-}
-
-// The registers, and the data that is due.
-fn chip_of(p: Player) -> Chip
-    ensures { λ r. ⌜ (r ≡ chipOf p) × Narrow (r .screen) ⌝ }
-{
-    let values = p.values;
-    let screen = screen_values::values_given(values);
-    let blit = p.blit;
-    let due = Due {
-        any: p.due != 0,
-        line: p.line,
-        word: p.word,
-    };
-    Chip { screen, blit, due }
-}
-
-// The player in a state whose half-read record is the first bytes of `half`.
-fn player_with(t: Taking, half: [u8; 7], held: u8) -> Player
-    requires { ⌜ (held ≤ 7) × (half ≡ over (take held half) (replicate 7 0)) × Narrow (t .chip .screen) ⌝ }
-    ensures { λ r. ⌜ r ≡ playerOf (record { chip = t .chip; half = take held half; count = t .count; number = t .number }) ⌝ }
-{
-    let chip = t.chip;
-    let screen = chip.screen;
-    let blit = chip.blit;
-    let due = chip.due;
-    let refused = t.number != 0;
-    Player {
-        values: screen_values::six_values(screen),
-        blit,
-        due: due.any as u32,
-        line: due.line,
-        word: due.word,
-        half,
-        held,
-        count: t.count,
-        kept: refused as u32,
-        number: t.number,
-        place: if refused { t.count } else { 0 },
-    }
-}
-
-// The player after a refused record: nothing is half read.
-fn refused_player(t: Taking) -> Player
-    requires { ⌜ Narrow (t .chip .screen) ⌝ }
-    ensures { λ r. ⌜ r ≡ playerOf (record { chip = t .chip; half = []; count = t .count; number = t .number }) ⌝ }
-{
-    player_with(t, [0; 7], 0)
-}
-
-// Byte i of the half-read record and the block behind it.
-fn joined_byte(half: [u8; 7], held: usize, block: &[u8], i: usize) -> u8
-    requires { ⌜ (held ≤ 7) × (i < held + length (now block)) ⌝ }
-    ensures { λ r. ⌜ r ≡ byteAt (take held half ++ now (block .entry)) i ⌝ }
-{
-    if i < held {
-        return half[i];
-    }
-    block[i - held]
-}
-
-// The first eight of these bytes: the record that the block makes whole.
-fn joined_record(half: [u8; 7], held: usize, block: &[u8]) -> [u8; 8]
-    requires { ⌜ (held ≤ 7) × (8 ≤ held + length (now block)) ⌝ }
-    ensures { λ r. ⌜ r ≡ take 8 (take held half ++ now (block .entry)) ⌝ }
-{
-    [
-        joined_byte(half, held, block, 0),
-        joined_byte(half, held, block, 1),
-        joined_byte(half, held, block, 2),
-        joined_byte(half, held, block, 3),
-        joined_byte(half, held, block, 4),
-        joined_byte(half, held, block, 5),
-        joined_byte(half, held, block, 6),
-        joined_byte(half, held, block, 7),
-    ]
-}
-
-// The half-read record with the block behind it, and zeros.
-fn joined_half(half: [u8; 7], held: usize, block: &[u8]) -> [u8; 7]
-    requires { ⌜ held + length (now block) ≤ 7 ⌝ }
-    ensures { λ r. ⌜ r ≡ over (take held half ++ now (block .entry)) (replicate 7 0) ⌝ }
-{
-    let count = held + block.len();
-    let mut next: [u8; 7] = [0; 7];
-    let mut i = 0;
-    while i < count {
-        next[i] = joined_byte(half, held, block, i);
-        i += 1;
-    }
-    next
 }
 
 // Records of so many that a run takes: all, or those before the refused one.
@@ -201,12 +68,12 @@ fn take_rest(start: Taking, bytes: &[u8], memory: &mut [u8]) -> Player
 {
     let t = take_records(start, bytes, memory);
     if t.number != 0 {
-        return refused_player(t);
+        return serial_state::refused_player(t);
     }
     let at = bytes.len() / 8 * 8;
     let rest = &bytes[at..];
-    let half = joined_half([0; 7], 0, rest);
-    player_with(t, half, rest.len() as u8)
+    let half = serial_state::joined_half([0; 7], 0, rest);
+    serial_state::player_with(t, half, rest.len() as u8)
 }
 
 // The bytes of a block, by a player that keeps no answer.
@@ -215,9 +82,9 @@ fn take_bytes(p: Player, block: &[u8], memory: &mut [u8]) -> Player
     ensures { λ r. ⌜ (r ≡ playerOf (bytesTaken memorySize (record { state = stateOf p; memory = now (memory .entry) }) (now (block .entry)) .state))
         × (now (memory .exit) ≡ bytesTaken memorySize (record { state = stateOf p; memory = now (memory .entry) }) (now (block .entry)) .memory) ⌝ }
 {
-    let held = held_by(p);
+    let held = serial_state::held_by(p);
     let start = Taking {
-        chip: chip_of(p),
+        chip: serial_state::chip_of(p),
         count: p.count,
         number: 0,
     };
@@ -227,13 +94,13 @@ fn take_bytes(p: Player, block: &[u8], memory: &mut [u8]) -> Player
     let half = p.half;
     let due = 8 - held;
     if block.len() < due {
-        let more = joined_half(half, held, block);
-        return player_with(start, more, (held + block.len()) as u8);
+        let more = serial_state::joined_half(half, held, block);
+        return serial_state::player_with(start, more, (held + block.len()) as u8);
     }
-    let whole = joined_record(half, held, block);
+    let whole = serial_state::joined_record(half, held, block);
     let t = take_records(start, &whole, memory);
     if t.number != 0 {
-        return refused_player(t);
+        return serial_state::refused_player(t);
     }
     take_rest(t, &block[due..], memory)
 }
@@ -301,7 +168,7 @@ fn keep(p: Player, number: u32, place: u64) -> Player
 fn end_of(p: Player) -> Player
     ensures { λ r. ⌜ r ≡ endedPlayer p ⌝ }
 {
-    if p.kept != 0 {
+    if 0 < p.kept {
         return p;
     }
     if p.held != 0 {
@@ -317,7 +184,10 @@ fn end_of(p: Player) -> Player
 pub fn take_end(p: Player) -> Fed
     ensures { λ r. ⌜ r ≡ fedOf (endedPlayer p) (endAnswer p) ⌝ }
 {
-    let player = end_of(p);
-    let answer = kept_answer(player);
-    Fed { player, answer }
+    let last = end_of(p);
+    let answer = kept_answer(last);
+    Fed {
+        player: last,
+        answer,
+    }
 }

@@ -60,9 +60,10 @@ returns-2 c =
     let a = s .args in
     let b = a .bytes .now in
     let t = c .before .before .before .before .before .before .before .take-records in
-    let z = c .before .before .before .if1 .left in
-    (c .player-with .ensures ∙ ap playerOf (left-state memorySize (a .start) (t .result) (a .memory .now) (t .last .1 .1 .0) b (s .pre .0) (t .ensures .0) z _ _ (part-left b (length b / 8 * 8)) (c .before .joined-half .ensures)),
-    ap (λ (x : Stage). x .memory) (rest-left memorySize (a .start) (t .result) (a .memory .now) (t .last .1 .1 .0) b (s .pre .0) (t .ensures .0) z))
+    let z = c .before .before .before .if1 .left in (
+      c .player-with .ensures ∙ ap playerOf (left-state memorySize (a .start) (t .result) (a .memory .now) (t .last .1 .1 .0) b (s .pre .0) (t .ensures .0) z _ _ (part-left b (length b / 8 * 8)) (c .before .joined-half .ensures)),
+      ap (λ (x : Stage). x .memory) (rest-left memorySize (a .start) (t .result) (a .memory .now) (t .last .1 .1 .0) b (s .pre .0) (t .ensures .0) z),
+    )
 
 pub take-rest-spec : {M : Type 1} → statement M
 take-rest-spec =

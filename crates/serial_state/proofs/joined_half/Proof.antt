@@ -6,8 +6,8 @@ use native.Mathlib.Omega.{arith}
 use lib.ListN.{length, take, set, replicate}
 use lib.Seq.{paste}
 use Rattle.serial.proofs.Half.{half-start, half-next, half-end}
-use Rattle.serial_code.proofs.joined_half.Statement.{statement}
-use Rattle.serial_code.proofs.joined_half.Tie as tie
+use Rattle.serial_state.proofs.joined_half.Statement.{statement}
+use Rattle.serial_state.proofs.joined_half.Tie as tie
 
 abbrev Inv-loop : tie.InvT-loop
 Inv-loop half held block count next₀ i₀ next i = (i ≤ count) × (next ≡ paste (replicate 7 0) 0 (take held half ++ block) i)

@@ -1,8 +1,8 @@
 use mathlib.Core.Path.{refl}
 use Rattle.chip.specs.Play.{newChip}
 use Rattle.serial.specs.State.{playerOf, newPlayer}
-use Rattle.serial_code.proofs.new_player.Statement.{statement}
-use Rattle.serial_code.proofs.new_player.Tie as tie
+use Rattle.serial_state.proofs.new_player.Statement.{statement}
+use Rattle.serial_state.proofs.new_player.Tie as tie
 
 returns : tie.Need-returns
 unfolding newPlayer playerOf newChip

@@ -1,8 +1,8 @@
 use native.Mathlib.Omega.{arith}
 use Rattle.serial.proofs.Half.{byte-held, byte-behind}
 use borrow.Author.Needs.{needs}
-use Rattle.serial_code.proofs.joined_byte.Statement.{statement}
-use Rattle.serial_code.proofs.joined_byte.Tie as tie
+use Rattle.serial_state.proofs.joined_byte.Statement.{statement}
+use Rattle.serial_state.proofs.joined_byte.Tie as tie
 
 array-read-result : tie.Need-array-read-result
 array-read-result c = search needs

@@ -1,7 +1,7 @@
 use Rattle.serial.proofs.Ways.{player-as, refused-place, no-place}
 use borrow.Author.Needs.{needs}
-use Rattle.serial_code.proofs.player_with.Statement.{statement}
-use Rattle.serial_code.proofs.player_with.Tie as tie
+use Rattle.serial_state.proofs.player_with.Statement.{statement}
+use Rattle.serial_state.proofs.player_with.Tie as tie
 
 six-values-requires : tie.Need-six-values-requires
 six-values-requires c κs = search needs

@@ -5,8 +5,8 @@ use Rattle.screen.specs.Narrow.{Narrow}
 use Rattle.serial.specs.State.{chipOf}
 use Rattle.serial.proofs.Ways.{narrow-given}
 use borrow.Author.Needs.{needs}
-use Rattle.serial_code.proofs.chip_of.Statement.{statement}
-use Rattle.serial_code.proofs.chip_of.Tie as tie
+use Rattle.serial_state.proofs.chip_of.Statement.{statement}
+use Rattle.serial_state.proofs.chip_of.Tie as tie
 
 values-given-requires : tie.Need-values-given-requires
 values-given-requires c κs = search needs

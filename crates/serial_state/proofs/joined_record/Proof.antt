@@ -5,8 +5,8 @@ use lib.ListN.{length, take}
 use Rattle.serial.proofs.Half.{length-joined}
 use Rattle.serial.proofs.Bytes.{first-eight}
 use borrow.Author.Needs.{needs}
-use Rattle.serial_code.proofs.joined_record.Statement.{statement}
-use Rattle.serial_code.proofs.joined_record.Tie as tie
+use Rattle.serial_state.proofs.joined_record.Statement.{statement}
+use Rattle.serial_state.proofs.joined_record.Tie as tie
 
 joined-byte-requires : tie.Need-joined-byte-requires
 joined-byte-requires c κs = search needs
