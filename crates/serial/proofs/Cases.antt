@@ -193,13 +193,27 @@ pub strange : (feeding 8 full (0 ∷ []) line8 .player .values ≡ 5 ∷ 0 ∷ 0
     × (feeding 8 full (0 ∷ []) line8 .player .held ≡ 0)
     × (feeding 8 full (0 ∷ []) line8 .player .count ≡ 18446744073709551615)
     × (endAnswer full ≡ refusedBy 19 0)
+    × (endedPlayer full
+    ≡ record {
+      values = replicate 6 0;
+      blit = zeros;
+      due = 0;
+      line = 0;
+      word = 0;
+      half = 0x40 ∷ 0 ∷ 0 ∷ 0 ∷ 5 ∷ 0 ∷ 0 ∷ [];
+      held = 200;
+      count = 18446744073709551614;
+      kept = 1;
+      number = 19;
+      place = 0;
+    })
     × (feeding 8 (owing 7) [] line8 .player .due ≡ 1)
     × (feeding 8 (owing 7) [] line8 .player .half ≡ replicate 7 0)
     × (endAnswer (owing 7) ≡ refusedBy 23 18446744073709551615)
     × (feeding 8 (owing 1) (streamBytes (recordWith 0x10000 0 ∷ [])) line8 .player ≡ idle zeros 18446744073709551615)
     × (feeding 8 (owing 0) (streamBytes (recordWith 0x10000 0 ∷ [])) line8 .answer ≡ refusedBy 23 18446744073709551615)
 unfolding firstOf firstPlace rowsAt recordBytes streamBytes recordAt getPixel putPixel bitwise pixels chipLine chipLines chipBlit blitOf wordPixel chipWord listed fits screenAfter blitAfter sourceFits startable span within mixBy fromBy jobOf writeOf started admitRows refusal dueAfter dueOf chipAfter effect newChip chipOf stateOf playerOf newPlayer recordTaken byteTaken bytesTaken blockRows keptBy fedWith feeding endRows keeping endedPlayer
-strange = (refl, refl, refl, refl, refl, refl, refl, refl, refl)
+strange = (refl, refl, refl, refl, refl, refl, refl, refl, refl, refl)
 
 -- ---- the statement's own words
 
