@@ -127,8 +127,9 @@ pub sizes : (feeding 8 newPlayer (replicate 65 0) (1 ∷ []) ≡ record { answer
     × (feeding 8 newPlayer (replicate 64 0) line8 .answer ≡ refusedBy 20 0)
     × (feeding 8 done (replicate 65 0) (1 ∷ []) ≡ record { answer = record { number = 0; place = 0; values = sixOf }; player = done; memory = 1 ∷ [] })
     × (feeding 8 (keeping newPlayer 23 7) (replicate 65 0) (1 ∷ []) .answer ≡ refusedBy 23 7)
+    × (feeding 8 (keeping done 0 5) [] line8 .answer ≡ record { number = 0; place = 0; values = sixOf })
 unfolding firstOf firstPlace rowsAt recordBytes streamBytes recordAt getPixel putPixel bitwise pixels chipLine chipLines chipBlit blitOf wordPixel chipWord listed fits screenAfter blitAfter sourceFits startable span within mixBy fromBy jobOf writeOf started admitRows refusal dueAfter dueOf chipAfter effect newChip chipOf stateOf playerOf newPlayer recordTaken byteTaken bytesTaken blockRows keptBy fedWith feeding endRows keeping endedPlayer
-sizes = (refl, refl, refl, refl, refl)
+sizes = (refl, refl, refl, refl, refl, refl)
 
 -- ---- the end
 
