@@ -84,7 +84,8 @@ pub taken : (feeding 8 newPlayer (streamBytes (three 5)) line8
 unfolding firstOf firstPlace rowsAt recordBytes streamBytes recordAt getPixel putPixel bitwise pixels chipLine chipLines chipBlit blitOf wordPixel chipWord listed fits screenAfter blitAfter sourceFits startable span within mixBy fromBy jobOf writeOf started admitRows refusal dueAfter dueOf chipAfter effect newChip chipOf stateOf playerOf newPlayer recordTaken byteTaken bytesTaken blockRows keptBy fedWith feeding endRows keeping endedPlayer fedAll
 taken = (refl, refl, refl, refl, refl, refl, refl)
 
--- ---- a refused record: its number and the count as place; the records before it have drawn, the bytes behind it are dropped
+-- ---- a refused record: its number and the count as place; the records before it have drawn, it writes no register, and the bytes behind it are
+-- dropped
 
 -- the fill, a number that is no register, and another fill
 abbrev bad : List ℕ
@@ -94,11 +95,13 @@ pub refused : (feeding 8 newPlayer bad line8
     ≡ record { answer = refusedBy 20 5; player = refusing (filled 5) 5 20; memory = 1 ∷ 2 ∷ 3 ∷ 4 ∷ 5 ∷ 9 ∷ 9 ∷ 9 ∷ [] })
     × (fedAll 8 newPlayer line8 (cutAt 44 bad) ≡ record { player = refusing (filled 5) 5 20; memory = 1 ∷ 2 ∷ 3 ∷ 4 ∷ 5 ∷ 9 ∷ 9 ∷ 9 ∷ [] })
     × (fedAll 8 newPlayer line8 (cutAt 48 bad) ≡ record { player = refusing (filled 5) 5 20; memory = 1 ∷ 2 ∷ 3 ∷ 4 ∷ 5 ∷ 9 ∷ 9 ∷ 9 ∷ [] })
+    × (feeding 8 newPlayer (streamBytes (recordWith 0x8018 2 ∷ recordWith 0x8018 0x400 ∷ [])) line8 .player .blit .width ≡ 2)
+    × (feeding 8 newPlayer (streamBytes (recordWith 0x8018 2 ∷ recordWith 0x8018 0x400 ∷ [])) line8 .answer ≡ refusedBy 21 1)
     × (endAnswer (refusing (filled 5) 5 20) ≡ refusedBy 20 5)
     × (feeding 8 (refusing (filled 5) 5 20) (streamBytes (three 0)) line8
     ≡ record { answer = refusedBy 20 5; player = refusing (filled 5) 5 20; memory = line8 })
 unfolding firstOf firstPlace rowsAt recordBytes streamBytes recordAt getPixel putPixel bitwise pixels chipLine chipLines chipBlit blitOf wordPixel chipWord listed fits screenAfter blitAfter sourceFits startable span within mixBy fromBy jobOf writeOf started admitRows refusal dueAfter dueOf chipAfter effect newChip chipOf stateOf playerOf newPlayer recordTaken byteTaken bytesTaken blockRows keptBy fedWith feeding endRows keeping endedPlayer fedAll
-refused = (refl, refl, refl, refl, refl)
+refused = (refl, refl, refl, refl, refl, refl, refl)
 
 -- ---- 18, 32, and what is kept, two at once
 
@@ -141,6 +144,9 @@ abbrev halfway : Player
 halfway = feeding 8 waiting (0 ∷ 0 ∷ 1 ∷ []) line8 .player
 
 pub ends : (feeding 8 newPlayer (streamBytes writes) line8 .memory ≡ 6 ∷ 7 ∷ 3 ∷ 4 ∷ 5 ∷ 6 ∷ 7 ∷ 8 ∷ [])
+    × (waiting .due ≡ 1)
+    × (waiting .line ≡ 0)
+    × (waiting .word ≡ 1)
     × (endAnswer waiting ≡ refusedBy 23 4)
     × (endAnswer halfway ≡ refusedBy 19 0)
     × (feeding 8 halfway (0 ∷ 5 ∷ 0 ∷ 0 ∷ 0 ∷ []) line8 .memory ≡ 1 ∷ 2 ∷ 5 ∷ 4 ∷ 5 ∷ 6 ∷ 7 ∷ 8 ∷ [])
@@ -152,7 +158,7 @@ pub ends : (feeding 8 newPlayer (streamBytes writes) line8 .memory ≡ 6 ∷ 7 �
     × (endAnswer done ≡ record { number = 0; place = 0; values = sixOf })
     × (endAnswer (idle zeros 7) ≡ refusedBy 0 0)
 unfolding firstOf firstPlace rowsAt recordBytes streamBytes recordAt getPixel putPixel bitwise pixels chipLine chipLines chipBlit blitOf wordPixel chipWord listed fits screenAfter blitAfter sourceFits startable span within mixBy fromBy jobOf writeOf started admitRows refusal dueAfter dueOf chipAfter effect newChip chipOf stateOf playerOf newPlayer recordTaken byteTaken bytesTaken blockRows keptBy fedWith feeding endRows keeping endedPlayer
-ends = (refl, refl, refl, refl, refl, refl, refl, refl, refl, refl, refl)
+ends = (refl, refl, refl, refl, refl, refl, refl, refl, refl, refl, refl, refl, refl, refl)
 
 -- ---- states that no stream leads to
 
