@@ -7,3 +7,4 @@ pub mod Cases
 pub mod Worker
 pub mod Straight
 pub mod Copy
+pub mod Bytes

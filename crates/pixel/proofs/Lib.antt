@@ -2,3 +2,4 @@ pub mod Cases
 pub mod Depth
 pub mod Pixels
 pub mod Raster
+pub mod Masking

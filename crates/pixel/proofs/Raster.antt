@@ -1,12 +1,12 @@
 -- Laws of raster codes, at every width of n bits.
 use mathlib.Core.Path.{_≡_, refl, sym, ap, ap₂, _∙_}
-use Prim.Native.Nat.{ℕ, zero, suc, _+_, _-_, _*_, _/_, _%_, _^_, _≤_, _<_}
-use native.Mathlib.Nat.{div-one, lt-of-lt-of-le, mod-eq-of-lt, mod-lt, mod-one, pow-suc}
-use native.Mathlib.Numerals.{add-one, one-add}
+use Prim.Native.Nat.{ℕ, zero, suc, _+_, _-_, _*_, _/_, _%_, _^_, _<_}
+use native.Mathlib.Nat.{div-one, mod-eq-of-lt, mod-lt, mod-one, mul-assoc, mul-comm, pow-suc, zero-add}
+use native.Mathlib.Numerals.{one-add}
 use native.Mathlib.Omega.{arith}
 use lib.Arith.{digits-div, digits-mod, mod-mul}
 use lib.Dec.{lit<}
-use lib.Pow.{pow-pos, pow-mono, shr-shr}
+use lib.Pow.{pow-pos, shr-shr}
 use Rattle.pixel.specs.Raster.{bit, bitwise, raster}
 
 two : 0 < 2
@@ -35,9 +35,6 @@ unfolding bitwise
 raster-lt zero c s d = lit< tt
 raster-lt (suc n) c s d =
     rw (pow-suc 2 n) (omega (arith, raster-lt n c (s / 2) (d / 2), bit-lt c (2 * (s % 2) + d % 2)))
-
-pub raster-under : (n k c s d r : ℕ) → n ≤ k → r ≡ raster n c s d → r < 2 ^ k
-raster-under n k c s d r h e = rw e (lt-of-lt-of-le (raster-lt n c s d) (pow-mono h))
 
 -- ---- two codes in whole numbers
 
@@ -83,31 +80,30 @@ six (suc (suc x)) y hx hy = absurd (omega arith)
 pub exclusive : (n s d k : ℕ) → k < n → bit (raster n 6 s d) k ≡ (bit s k + bit d k) % 2
 exclusive n s d k h = rule n 6 s d k h ∙ six (bit s k) (bit d k) (bit-lt s k) (bit-lt d k)
 
--- ---- the loop, bit by bit from the highest: k bits are still to come
+-- ---- low bits and high bits apart
 
-grown : (m j c s d : ℕ) → raster (suc m) c (s / 2 ^ j) (d / 2 ^ j) ≡ raster m c (s / 2 ^ suc j) (d / 2 ^ suc j) * 2 + bit c (2 * bit s j + bit d j)
+twice : (p s : ℕ) → p * 2 * s ≡ p * s * 2
+twice p s = mul-assoc p 2 s ∙ ap (λ (k : ℕ). p * k) (mul-comm 2 s) ∙ sym (mul-assoc p s 2)
+
+halved : (k x s : ℕ) → (x + 2 ^ suc k * s) / 2 ≡ x / 2 + 2 ^ k * s
+halved k x s = rw (pow-suc 2 k, twice (2 ^ k) s) (omega arith)
+
+lowest : (k x s : ℕ) → (x + 2 ^ suc k * s) % 2 ≡ x % 2
+lowest k x s = rw (pow-suc 2 k, twice (2 ^ k) s) (omega arith)
+
+-- k low bits x and y, and n bits s and d above them
+pub raster-append : (k n c x y s d : ℕ) → x < 2 ^ k → y < 2 ^ k
+    → raster (k + n) c (x + 2 ^ k * s) (y + 2 ^ k * d) ≡ raster k c x y + 2 ^ k * raster n c s d
 unfolding bitwise
-grown m j c s d =
-    ap₂ (λ (x y : ℕ). raster m c x y * 2 + bit c (2 * bit s j + bit d j))
-    (shr-shr s j 1 ∙ ap (λ (k : ℕ). s / 2 ^ k) (add-one j))
-    (shr-shr d j 1 ∙ ap (λ (k : ℕ). d / 2 ^ k) (add-one j))
-
-pub raster-none : (n c s d : ℕ) → 0 ≡ raster (n - n) c s d
-unfolding bitwise
-raster-none n c s d = let z : n - n ≡ 0 = omega arith in rw z
-
-pub raster-more : (n k c s d r : ℕ) → 0 < k → k ≤ n → r ≡ raster (n - k) c (s / 2 ^ k) (d / 2 ^ k)
-    → r * 2 + bit c (2 * bit s (k - 1) + bit d (k - 1)) ≡ raster (n - (k - 1)) c (s / 2 ^ (k - 1)) (d / 2 ^ (k - 1))
-raster-more n zero c s d r pos h e = absurd (omega arith)
-raster-more n (suc j) c s d r pos h e =
-    let p : suc j - 1 ≡ j = omega arith in
-    let q : n - j ≡ suc (n - suc j) = omega arith in
-    rw (p, q) (ap (λ (k : ℕ). k * 2 + bit c (2 * bit s j + bit d j)) e ∙ sym (grown (n - suc j) j c s d))
-
-pub raster-end : (n k c s d r : ℕ) → k ≡ 0 → r ≡ raster (n - k) c (s / 2 ^ k) (d / 2 ^ k) → r ≡ raster n c s d
-raster-end n k c s d r z e =
-    let e₀ : r ≡ raster (n - 0) c (s / 1) (d / 1) = rw z at e in
-    let a : n - 0 ≡ n = omega arith in
-    let b : s / 1 ≡ s = omega arith in
-    let f : d / 1 ≡ d = omega arith in
-    e₀ ∙ rw (a, b, f)
+raster-append zero n c x y s d hx hy =
+    let a : x + 1 * s ≡ s = omega arith in
+    let b : y + 1 * d ≡ d = omega arith in
+    rw (zero-add n, a, b) (omega arith)
+raster-append (suc k) n c x y s d hx hy =
+    let p : 2 ^ suc k ≡ 2 ^ k * 2 = pow-suc 2 k in
+    let more : suc k + n ≡ suc (k + n) = omega arith in
+    let low : bit c (2 * ((x + 2 ^ suc k * s) % 2) + (y + 2 ^ suc k * d) % 2) ≡ bit c (2 * (x % 2) + y % 2) =
+    ap₂ (λ (u v : ℕ). bit c (2 * u + v)) (lowest k x s) (lowest k y d) in
+    let high : raster (k + n) c ((x + 2 ^ suc k * s) / 2) ((y + 2 ^ suc k * d) / 2) ≡ raster k c (x / 2) (y / 2) + 2 ^ k * raster n c s d =
+    ap₂ (raster (k + n) c) (halved k x s) (halved k y d) ∙ raster-append k n c (x / 2) (y / 2) s d (omega arith) (omega arith) in
+    rw more (ap₂ (λ (u v : ℕ). u * 2 + v) high low ∙ rw (p, twice (2 ^ k) (raster n c s d)) (omega arith))

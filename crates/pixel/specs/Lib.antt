@@ -1,3 +1,4 @@
 pub mod Depth
 pub mod Pixel
 pub mod Raster
+pub mod Masking

@@ -1,11 +1,13 @@
 // Pixels in memory, and raster codes.
 ghost use mathlib.Core.Path.{_≡_};
 ghost use mathlib.Core.Bool.{true};
-ghost use Prim.Native.Nat.{_+_, _*_, _≤_, _<_};
+ghost use Prim.Native.Nat.{_+_, _-_, _*_, _^_, _≤_, _<_};
 ghost use lib.ListN.{length};
 ghost use Rattle.pixel.specs.Depth.{isDepth, perDword};
 ghost use Rattle.pixel.specs.Pixel.{getPixel, putPixel, dwordPixel};
 ghost use Rattle.pixel.specs.Raster.{bit, raster};
+ghost use Rattle.pixel.specs.Masking.{masksOf, chosen, masked};
+use pixel::Masks;
 
 // A byte as a wider number.
 fn wide(x: u8) -> u16
@@ -65,34 +67,57 @@ pub fn dword_pixel(depth: u32, memory: &[u8], dword: usize, i: u32) -> u16
     (wide(memory[at]) >> right) % (1u16 << depth)
 }
 
-// Bit k of x.
-fn bit_of(x: u16, k: u32) -> u16
-    requires { ⌜ k < 16 ⌝ }
-    ensures { λ r. ⌜ r ≡ bit x k ⌝ }
+// So many ones.
+fn ones(bits: u32) -> u16
+    requires { ⌜ bits ≤ 16 ⌝ }
+    ensures { λ r. ⌜ r ≡ 2 ^ bits - 1 ⌝ }
 {
-    (x >> k) % 2
+    ((1u32 << bits) - 1) as u16
 }
 
-// The result bit at place k.
-fn result_bit(code: u8, s: u16, d: u16, k: u32) -> u16
-    requires { ⌜ k < 16 ⌝ }
-    ensures { λ r. ⌜ r ≡ bit code (2 * bit s k + bit d k) ⌝ }
+// All of the ones where bit k of the code is 1, else 0.
+fn mask(all: u16, code: u8, k: u32) -> u16
+    requires { ⌜ k < 8 ⌝ }
+    ensures { λ r. ⌜ r ≡ all * bit code k ⌝ }
 {
-    let at = 2 * bit_of(s, k) + bit_of(d, k);
-    bit_of(code as u16, at as u32)
+    if (code >> k) % 2 == 0 { 0 } else { all }
 }
 
-// Source and destination pixel combined under a raster code, bit by bit from the highest.
+// The masks of a raster code for numbers of so many bits.
+pub fn masks_of(bits: u32, code: u8) -> Masks
+    requires { ⌜ bits ≤ 16 ⌝ }
+    ensures { λ r. ⌜ r ≡ masksOf bits code ⌝ }
+{
+    let all = ones(bits);
+    Masks {
+        neither: mask(all, code, 0),
+        destination: mask(all, code, 1),
+        source: mask(all, code, 2),
+        both: mask(all, code, 3),
+    }
+}
+
+// Each bit from a where x has 1, from b where it has 0.
+fn choose(x: u16, a: u16, b: u16) -> u16
+    ensures { λ r. ⌜ r ≡ chosen x a b ⌝ }
+{
+    b ^ (x & (a ^ b))
+}
+
+// Source and destination pixel under masks, all bits together.
+pub fn combine_under(masks: Masks, s: u16, d: u16) -> u16
+    ensures { λ r. ⌜ r ≡ masked masks s d ⌝ }
+{
+    let high = choose(d, masks.both, masks.source);
+    let low = choose(d, masks.destination, masks.neither);
+    choose(s, high, low)
+}
+
+// Source and destination pixel combined under a raster code.
 pub fn combine(bits: u32, code: u8, s: u16, d: u16) -> u16
     requires { ⌜ bits ≤ 16 ⌝ }
     ensures { λ r. ⌜ r ≡ raster bits code s d ⌝ }
 {
-    let mut r: u16 = 0;
-    let mut k = bits;
-    while 0 < k {
-        k -= 1;
-        let b = result_bit(code, s, d, k);
-        r = r * 2 + b;
-    }
-    r
+    let masks = masks_of(bits, code);
+    combine_under(masks, s, d)
 }

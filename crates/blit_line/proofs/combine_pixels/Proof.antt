@@ -1,12 +1,12 @@
 use mathlib.Core.Path.{_≡_, sym, ap, _∙_}
 use mathlib.Core.List.{List}
 use Prim.Native.Nat.{ℕ, _*_}
-use native.Mathlib.Omega.{arith}
 use Rattle.pixel.specs.Pixel.{getPixel}
 use Rattle.blit.specs.Job.{mixOf}
 use Rattle.blit.specs.Line.{straightLine}
 use Rattle.blit.specs.declared.Mix.{Mix}
 use Rattle.blit.proofs.Copy.{straight-copied}
+use Rattle.blit.proofs.Bytes.{straight-bytes}
 use borrow.Author.Needs.{needs}
 use Rattle.blit_line.proofs.combine_pixels.Statement.{statement}
 use Rattle.blit_line.proofs.combine_pixels.Tie as tie
@@ -27,16 +27,11 @@ copy-bytes-requires c κs = search needs
 enum-known-mix : tie.Need-enum-known-mix
 enum-known-mix c = search needs
 
-raster-pixels-requires : tie.Need-raster-pixels-requires
-raster-pixels-requires c κs =
-    let a = c .before .before .before .before .before .before .before .args in
-    omega (arith, ap (λ (k : ℕ). a .width * k) (c .before .if1 .taken))
+mul-raster-bytes : tie.Need-mul-raster-bytes
+mul-raster-bytes c = search needs
 
-raster-pixels-requires-2 : tie.Need-raster-pixels-requires-2
-raster-pixels-requires-2 c κs =
-    let a = c .before .before .before .before .before .before .before .args in
-    let two : a .bytes ≡ 2 = omega arith in
-    omega (arith, ap (λ (k : ℕ). a .width * k) two)
+raster-bytes-requires : tie.Need-raster-bytes-requires
+raster-bytes-requires c κs = search needs
 
 same-length : tie.Need-same-length
 same-length c = search needs
@@ -57,22 +52,13 @@ same-length-2 c = search needs
 returns-2 : tie.Need-returns-2
 returns-2 c =
     let drawn = c .before .before in
-    let one = drawn .before .before in
-    let told = one .before .before in
-    let a = told .before .before .before .before .args in
-    drawn .raster-pixels .ensures ∙ (λ t. mixedLine (sym (one .if1 .taken) t) (a .width) (a .source .now) (a .line .now) (sym (told .mix .given .1) t))
-
-same-length-3 : tie.Need-same-length-3
-same-length-3 c = search needs
-
-returns-3 : tie.Need-returns-3
-returns-3 c =
-    let drawn = c .before .before in
-    let two = drawn .before .before in
-    let told = two .before .before in
-    let a = told .before .before .before .before .args in
-    let wide : 2 ≡ a .bytes = omega arith in
-    drawn .raster-pixels2 .ensures ∙ (λ t. mixedLine (wide t) (a .width) (a .source .now) (a .line .now) (sym (told .mix .given .1) t))
+    let told = drawn .before .before .before in
+    let known = told .before .before in
+    let a = known .before .before .args in
+    drawn .raster-bytes .ensures
+    ∙ sym (straight-bytes (told .mix .given .0 .0) (a .source .now) (a .line .now) (λ k. (known .shared-slice-known .given k) .fits)
+    (λ k. (known .before .slice-known .given k) .fits) (a .bytes) (a .width))
+    ∙ ap (mixedLine (a .bytes) (a .width) (a .source .now) (a .line .now)) (sym (told .mix .given .1))
 
 pub combine-pixels-spec : {M : Type 1} → statement M
 combine-pixels-spec =
@@ -82,11 +68,9 @@ combine-pixels-spec =
     mul-copy-bytes
     copy-bytes-requires
     enum-known-mix
-    raster-pixels-requires
-    raster-pixels-requires-2
+    mul-raster-bytes
+    raster-bytes-requires
     same-length
     returns
     same-length-2
-    returns-2
-    same-length-3
-    returns-3)
+    returns-2)
