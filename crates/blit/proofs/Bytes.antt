@@ -9,7 +9,8 @@ use lib.ListN.{getD, set}
 use Rattle.pixel.specs.Pixel.{getPixel, putPixel}
 use Rattle.pixel.specs.Raster.{raster}
 use Rattle.pixel.proofs.Pixels.{get-ext, get-one, put-one}
-use Rattle.pixel.proofs.Raster.{raster-append, raster-lt}
+use Rattle.pixel.proofs.Masking.{by-bytes}
+use Rattle.pixel.proofs.Raster.{raster-lt}
 use Rattle.blit.specs.Blit.{pixels}
 use Rattle.blit.specs.Line.{straightLine}
 use Rattle.blit.proofs.Runs.{keep-pixels}
@@ -52,7 +53,7 @@ module _ (c : ℕ) (source line : List ℕ) where
         let v : ℕ = raster (8 * suc bytes) c (x + 256 * s) (y + 256 * d) in
         let size : 8 * suc bytes ≡ 8 + 8 * bytes = omega arith in
         let parts : v ≡ raster 8 c x y + 256 * raster (8 * bytes) c s d =
-        ap (λ (k : ℕ). raster k c (x + 256 * s) (y + 256 * d)) size ∙ raster-append 8 (8 * bytes) c x y s d (small n) (rw (ahead n n (omega arith)) (fits n)) in
+        ap (λ (k : ℕ). raster k c (x + 256 * s) (y + 256 * d)) size ∙ by-bytes (8 * bytes) c x y s d (small n) (rw (ahead n n (omega arith)) (fits n)) in
         let low : v % 256 ≡ raster 8 c x y = omega (arith, parts, raster-lt 8 c x y) in
         let high : v / 256 ≡ raster (8 * bytes) c s d = omega (arith, parts, raster-lt 8 c x y) in
         let rest : d ≡ getPixel bytes (bytewise (suc n)) (suc n) =

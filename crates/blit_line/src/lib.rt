@@ -63,14 +63,14 @@ fn combine_pixel(line: &mut [u8], bytes: usize, at: usize, mix: Mix, v: u16)
     pixel_code::put_pixel(line, bytes, at, r);
 }
 
-// The bytes of a source line and those of the line under a raster code, side by side. The masks are made once.
-fn raster_bytes(line: &mut [u8], size: usize, code: u8, source: &[u8])
-    requires { ⌜ (size ≤ length (now line)) × (size ≤ length (now source)) ⌝ }
-    ensures { λ _. ⌜ now (line .exit) ≡ straightLine 1 (mixOf (Raster code) 1) (λ i. getPixel 1 (now (source .entry)) (i * 1)) size (now (line .entry)) ⌝ }
+// The bytes of a line, each combined with a source line's byte under a raster code. The masks are made once.
+fn raster_bytes(line: &mut [u8], code: u8, source: &[u8])
+    requires { ⌜ length (now line) ≤ length (now source) ⌝ }
+    ensures { λ _. ⌜ now (line .exit) ≡ straightLine 1 (mixOf (Raster code) 1) (λ i. getPixel 1 (now (source .entry)) (i * 1)) (length (now (line .entry))) (now (line .entry)) ⌝ }
 {
     let masks = pixel_code::masks_of(8, code);
     let mut i = 0;
-    while i < size {
+    while i < line.len() {
         let s = pixel_code::get_pixel(source, 1, i);
         let d = pixel_code::get_pixel(line, 1, i);
         let r = pixel_code::combine_under(masks, s, d);
@@ -86,7 +86,7 @@ fn combine_pixels(line: &mut [u8], bytes: usize, width: usize, mix: Mix, source:
 {
     match mix {
         Mix::Store => copy_bytes(source, 0, width * bytes, line),
-        Mix::Raster(code) => raster_bytes(line, width * bytes, code, source),
+        Mix::Raster(code) => raster_bytes(line, code, source),
     }
 }
 

@@ -7,6 +7,7 @@ use Prim.Native.Nat.{ℕ}
 use Rattle.pixel.specs.Depth.{isDepth, perDword}
 use Rattle.pixel.specs.Pixel.{getPixel, putPixel, byteOf, dwordPixel}
 use Rattle.pixel.specs.Raster.{bit, bitwise, raster}
+use Rattle.pixel.specs.Masking.{maskOf, masksOf, chosen, masked}
 
 pub depth-cases : (isDepth 1 ≡ true) × (isDepth 16 ≡ true) × (isDepth 3 ≡ false) × (isDepth 32 ≡ false) × (perDword 4 ≡ 8)
 unfolding isDepth
@@ -43,8 +44,22 @@ pub raster-cases : (bit 6 2 ≡ 1)
 unfolding bitwise
 raster-cases = (refl, refl, refl, refl, refl, refl)
 
--- source 1100 and destination 1010 make the code itself, for each of the sixteen
-pub all-codes : map (λ c. raster 4 c 0xC 0xA) (0 ∷ 1 ∷ 2 ∷ 3 ∷ 4 ∷ 5 ∷ 6 ∷ 7 ∷ 8 ∷ 9 ∷ 10 ∷ 11 ∷ 12 ∷ 13 ∷ 14 ∷ 15 ∷ [])
-    ≡ 0 ∷ 1 ∷ 2 ∷ 3 ∷ 4 ∷ 5 ∷ 6 ∷ 7 ∷ 8 ∷ 9 ∷ 10 ∷ 11 ∷ 12 ∷ 13 ∷ 14 ∷ 15 ∷ []
-unfolding bitwise
-all-codes = refl
+abbrev sixteen : List ℕ
+sixteen = 0 ∷ 1 ∷ 2 ∷ 3 ∷ 4 ∷ 5 ∷ 6 ∷ 7 ∷ 8 ∷ 9 ∷ 10 ∷ 11 ∷ 12 ∷ 13 ∷ 14 ∷ 15 ∷ []
+
+-- source 1100 and destination 1010 make the code itself, for each of the sixteen; all bits at once too
+pub all-codes : (map (λ c. raster 4 c 0xC 0xA) sixteen ≡ sixteen) × (map (λ c. masked (masksOf 4 c) 0xC 0xA) sixteen ≡ sixteen)
+unfolding bitwise maskOf chosen masked
+all-codes = (refl, refl)
+
+-- a mask of 16 bits where the code has 1 and where it has 0; the left half of one number and the right half of another; and, all bits at
+-- once, neither source nor destination (code 1) and the inverse of the destination (code 5), at both depths
+pub masking-cases : (maskOf 16 5 2 ≡ 0xFFFF)
+    × (maskOf 16 5 1 ≡ 0)
+    × (chosen 0xF0 0xAB 0xCD ≡ 0xAD)
+    × (masked (masksOf 8 1) 0xCC 0xAA ≡ 0x11)
+    × (masked (masksOf 8 5) 0xCC 0xAA ≡ 0x55)
+    × (masked (masksOf 16 1) 0xCC0F 0xAA0F ≡ 0x11F0)
+    × (masked (masksOf 16 5) 0xCC0F 0xAA0F ≡ 0x55F0)
+unfolding maskOf chosen masked
+masking-cases = (refl, refl, refl, refl, refl, refl, refl)

@@ -7,8 +7,8 @@ use lib.Arith.{digits-div, digits-mod}
 use lib.Bits.{bitAnd, bitXor, and-mod, and-shr, and-zero-l, and-zero-r, xor-mod, xor-self, xor-shr, xor-zero-r}
 use lib.Pow.{pow-pos}
 use Rattle.pixel.specs.Raster.{bit, bitwise, raster}
-use Rattle.pixel.specs.Masking.{maskOf, masksOf, chosen, masked}
-use Rattle.pixel.proofs.Raster.{bit-lt}
+use Rattle.pixel.specs.Masking.{maskOf, chosen, masked, AtOnce, ByBytes}
+use Rattle.pixel.proofs.Raster.{bit-lt, raster-append}
 
 -- ---- choosing goes digit by digit
 
@@ -81,19 +81,22 @@ mask-none : (c k : ℕ) → maskOf 0 c k ≡ 0
 unfolding maskOf
 mask-none c k = omega arith
 
--- ---- the rule, for every code at every number of bits
+-- ---- the claims
 
 halves : (v : ℕ) → v ≡ v / 2 * 2 + v % 2
 halves v = omega arith
 
-pub masked-raster : (n c s d : ℕ) → masked (masksOf n c) s d ≡ raster n c s d
+pub at-once : AtOnce
 unfolding masked bitwise
-masked-raster zero c s d =
+at-once zero c s d =
     rw (mask-none c 0, mask-none c 1, mask-none c 2, mask-none c 3, chosen-same d 0) (chosen-same s 0)
-masked-raster (suc n) c s d =
+at-once (suc n) c s d =
     let m : ℕ → ℕ = maskOf (suc n) c in
     let high : tree (m 0) (m 1) (m 2) (m 3) s d / 2 ≡ raster n c (s / 2) (d / 2) =
-    tree-half (m 0) (m 1) (m 2) (m 3) s d ∙ rw (mask-half n c 0, mask-half n c 1, mask-half n c 2, mask-half n c 3) (masked-raster n c (s / 2) (d / 2)) in
+    tree-half (m 0) (m 1) (m 2) (m 3) s d ∙ rw (mask-half n c 0, mask-half n c 1, mask-half n c 2, mask-half n c 3) (at-once n c (s / 2) (d / 2)) in
     let low : tree (m 0) (m 1) (m 2) (m 3) s d % 2 ≡ bit c (2 * (s % 2) + d % 2) =
     tree-low (m 0) (m 1) (m 2) (m 3) s d ∙ rw (mask-low n c 0, mask-low n c 1, mask-low n c 2, mask-low n c 3) (tree-bit c (s % 2) (d % 2) (omega arith) (omega arith)) in
     halves _ ∙ ap₂ (λ (x y : ℕ). x * 2 + y) high low
+
+pub by-bytes : ByBytes
+by-bytes n c x y s d hx hy = raster-append 8 n c x y s d hx hy

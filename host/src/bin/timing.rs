@@ -284,11 +284,18 @@ fn main() {
         ("up and left by one, overlap", [8, 8, 496, 496, 9, 9], RECTANGLE, Some(&near_up)),
         ("down and right by one, overlap", [9, 9, 496, 496, 8, 8], RECTANGLE, Some(&near_down)),
     ];
-    for (code, name) in [(0xC, "move"), (6, "exclusive or")] {
-        for (way, [x, y, w, h, sx, sy], size, plain) in moves {
-            let stream = compiled(&bytes, &command(1, code, [x, y, w, h, sx, sy, 0]), &[]);
-            let plain = if code == 0xC { plain } else { None };
-            timing.play(&format!("{name} {way}"), &stream, size, plain);
+    for (way, [x, y, w, h, sx, sy], size, plain) in moves {
+        let stream = compiled(&bytes, &command(1, 0xC, [x, y, w, h, sx, sy, 0]), &[]);
+        timing.play(&format!("move {way}"), &stream, size, plain);
+    }
+    for (code, name) in [(6, "exclusive or"), (1, "code 1"), (7, "code 7")] {
+        // The same bytes at both depths, but for the step to the side, which is a pixel.
+        for (depth, screen, pixel) in [(8, &bytes, 1), (16, &words, 2)] {
+            for (way, [x, y, w, h, sx, sy], size, _) in moves {
+                let numbers = [x / pixel, y, w / pixel, h, x / pixel + sx - x, sy, 0];
+                let stream = compiled(screen, &command(1, code, numbers), &[]);
+                timing.play(&format!("{name} {way}, depth {depth}"), &stream, size, None);
+            }
         }
     }
 

@@ -5,6 +5,7 @@ use Rattle.pixel.specs.Pixel.{getPixel}
 use Rattle.blit.specs.Job.{mixOf}
 use Rattle.blit.specs.Line.{straightLine}
 use Rattle.blit.specs.declared.Mix.{Mix}
+use Rattle.blit.specs.declared.Mix.the-variants.{Raster}
 use Rattle.blit.proofs.Copy.{straight-copied}
 use Rattle.blit.proofs.Bytes.{straight-bytes}
 use borrow.Author.Needs.{needs}
@@ -26,9 +27,6 @@ copy-bytes-requires c κs = search needs
 
 enum-known-mix : tie.Need-enum-known-mix
 enum-known-mix c = search needs
-
-mul-raster-bytes : tie.Need-mul-raster-bytes
-mul-raster-bytes c = search needs
 
 raster-bytes-requires : tie.Need-raster-bytes-requires
 raster-bytes-requires c κs = search needs
@@ -56,6 +54,7 @@ returns-2 c =
     let known = told .before .before in
     let a = known .before .before .args in
     drawn .raster-bytes .ensures
+    ∙ ap (λ (n : ℕ). mixedLine 1 n (a .source .now) (a .line .now) (Raster (told .mix .given .0 .0))) (known .before .before .pre .0 .size)
     ∙ sym (straight-bytes (told .mix .given .0 .0) (a .source .now) (a .line .now) (λ k. (known .shared-slice-known .given k) .fits)
     (λ k. (known .before .slice-known .given k) .fits) (a .bytes) (a .width))
     ∙ ap (mixedLine (a .bytes) (a .width) (a .source .now) (a .line .now)) (sym (told .mix .given .1))
@@ -68,7 +67,6 @@ combine-pixels-spec =
     mul-copy-bytes
     copy-bytes-requires
     enum-known-mix
-    mul-raster-bytes
     raster-bytes-requires
     same-length
     returns

@@ -8,7 +8,7 @@ use lib.ListN.{length}
 use Rattle.pixel.specs.Pixel.{getPixel, putPixel}
 use Rattle.pixel.specs.Masking.{masked}
 use Rattle.pixel.proofs.Pixels.{length-put}
-use Rattle.pixel.proofs.Masking.{masked-raster}
+use Rattle.pixel.proofs.Masking.{at-once}
 use Rattle.blit.specs.Job.{mixOf}
 use Rattle.blit.specs.declared.Mix.the-variants.{Raster}
 use Rattle.blit.specs.Line.{straightLine}
@@ -18,10 +18,10 @@ use Rattle.blit_line.proofs.raster_bytes.Statement.{statement}
 use Rattle.blit_line.proofs.raster_bytes.Tie as tie
 
 abbrev Inv-loop : tie.InvT-loop
-Inv-loop line₀ size code source masks i₀ line i = (i ≤ size) × (length line ≡ length line₀) × (line ≡ straightLine 1 (mixOf (Raster code) 1) (λ k. getPixel 1 source (k * 1)) i line₀)
+Inv-loop line₀ code source masks i₀ line i = (i ≤ length line₀) × (length line ≡ length line₀) × (line ≡ straightLine 1 (mixOf (Raster code) 1) (λ k. getPixel 1 source (k * 1)) i line₀)
 
 abbrev μ-loop : tie.MeasureT-loop
-μ-loop line₀ size code source masks i₀ line i = size - i
+μ-loop line₀ code source masks i₀ line i = length line₀ - i
 
 masks-of-requires : tie.Need-masks-of-requires Inv-loop μ-loop
 masks-of-requires c κs = omega arith
@@ -62,7 +62,7 @@ loop-again c =
     under .combine-under .ensures
     ∙ ap₂ (masked (masks .result)) (fetched .get-pixel .ensures) (own .get-pixel2 .ensures)
     ∙ ap (λ (m : Masks). masked m x y) (masks .ensures)
-    ∙ masked-raster 8 (a .code) x y in (
+    ∙ at-once 8 (a .code) x y in (
       omega arith,
       ap length (put .put-pixel .ensures) ∙ length-put _ _ _ _ ∙ l .inv .1,
       rw add-one
