@@ -289,9 +289,9 @@ fn main() {
         timing.play(&format!("move {way}"), &stream, size, plain);
     }
     for (code, name) in [(6, "exclusive or"), (1, "code 1"), (7, "code 7")] {
-        // The same bytes at both depths, but for the step to the side, which is a pixel.
+        // As many bytes at both depths; the step to the side is a pixel.
         for (depth, screen, pixel) in [(8, &bytes, 1), (16, &words, 2)] {
-            for (way, [x, y, w, h, sx, sy], size, _) in moves {
+            for (way, [x, y, w, h, sx, sy], size, _) in [moves[1], moves[3]] {
                 let numbers = [x / pixel, y, w / pixel, h, x / pixel + sx - x, sy, 0];
                 let stream = compiled(screen, &command(1, code, numbers), &[]);
                 timing.play(&format!("{name} {way}, depth {depth}"), &stream, size, None);
@@ -300,9 +300,13 @@ fn main() {
     }
 
     let written = compiled(&bytes, &write, &pixels);
-    timing.play("write, depth 8", &written, RECTANGLE, None);
-    let write = command(2, 0xC, [4, 8, 248, 496, 0, 0, 0]);
-    timing.play("write, depth 16", &compiled(&words, &write, &pixels), RECTANGLE, None);
+    for (code, name) in [(0xC, ""), (6, " under exclusive or")] {
+        for (depth, screen, x, width) in [(8, &bytes, 8, 496), (16, &words, 4, 248)] {
+            let write = command(2, code, [x, 8, width, 496, 0, 0, 0]);
+            let stream = compiled(screen, &write, &pixels);
+            timing.play(&format!("write{name}, depth {depth}"), &stream, RECTANGLE, None);
+        }
+    }
 
     let fills: Vec<u8> = (0..64)
         .flat_map(|i| command(0, 0, [i % 8 * 50 + i, i / 8 * 50 + i, 8, 8, 0, 0, i]))

@@ -1,12 +1,12 @@
-use borrow.Author.Needs.{needs}
-use Rattle.pixel.specs.declared.Masks.{Masks}
-use mathlib.Core.Path.{_≡_, ap, _∙_, ap₂}
-use Prim.Native.Nat.{_-_, _*_, _≤_, ℕ}
+use mathlib.Core.Path.{_≡_, ap, ap₂, _∙_}
+use Prim.Native.Nat.{_-_, _*_, _≤_}
 use native.Mathlib.Numerals.{add-one}
 use native.Mathlib.Omega.{arith}
+use borrow.Author.Needs.{needs}
 use lib.ListN.{length}
 use Rattle.pixel.specs.Pixel.{getPixel, putPixel}
 use Rattle.pixel.specs.Masking.{masked}
+use Rattle.pixel.specs.declared.Masks.{Masks}
 use Rattle.pixel.proofs.Pixels.{length-put}
 use Rattle.pixel.proofs.Masking.{at-once}
 use Rattle.blit.specs.Job.{mixOf}
