@@ -1,9 +1,10 @@
 -- Some pixels, computed: 01's "low byte first", "pixel 0 in the lowest byte and, below depth 8, in its highest bits", and
--- "bit (2s + d) of c".
+-- "bit (2s + d) of c", held against 002's table of codes.
 use mathlib.Core.Path.{_≡_, refl}
 use mathlib.Core.Bool.{true, false}
 use mathlib.Core.List.{List, [], _∷_, map}
-use Prim.Native.Nat.{ℕ}
+use Prim.Native.Nat.{ℕ, _-_, _^_}
+use lib.Bits.{bitAnd, bitOr, bitXor}
 use Rattle.pixel.specs.Depth.{isDepth, perDword}
 use Rattle.pixel.specs.Pixel.{getPixel, putPixel, byteOf, dwordPixel}
 use Rattle.pixel.specs.Raster.{bit, bitwise, raster}
@@ -52,7 +53,20 @@ pub all-codes : (map (λ c. raster 4 c 0xC 0xA) sixteen ≡ sixteen) × (map (λ
 unfolding bitwise maskOf chosen masked
 all-codes = (refl, refl)
 
--- a mask of 16 bits where the code has 1 and where it has 0; the left half of one number and the right half of another; and, all bits at
+-- what each code makes of source and destination, as 002's table 9-2 writes it, in numbers of n bits
+abbrev byTable : ℕ → ℕ → ℕ → List ℕ
+byTable n s d =
+    let one : ℕ = 2 ^ n - 1 in
+    let not : ℕ → ℕ = λ x. one - x in
+    0 ∷ not (bitOr s d) ∷ bitAnd (not s) d ∷ not s ∷ bitAnd s (not d) ∷ not d ∷ bitXor s d ∷ not (bitAnd s d)
+    ∷ bitAnd s d ∷ not (bitXor s d) ∷ d ∷ bitOr (not s) d ∷ s ∷ bitOr s (not d) ∷ bitOr s d ∷ one ∷ []
+
+pub table-cases : (map (λ c. raster 8 c 0xCA 0xAC) sixteen ≡ byTable 8 0xCA 0xAC)
+    × (map (λ c. raster 16 c 0xCA35 0xAC53) sixteen ≡ byTable 16 0xCA35 0xAC53)
+unfolding bitwise
+table-cases = (refl, refl)
+
+-- a mask of 16 bits where the code has 1 and where it has 0; the high digit of one number with the low digit of another; and, all bits at
 -- once, neither source nor destination (code 1) and the inverse of the destination (code 5), at both depths
 pub masking-cases : (maskOf 16 5 2 ≡ 0xFFFF)
     × (maskOf 16 5 1 ≡ 0)
