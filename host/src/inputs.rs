@@ -306,13 +306,49 @@ fn address(rng: &mut Rng, reach: u64, pixel: u64, backward: bool) -> u64 {
     }
 }
 
+fn stream_of(records: Vec<(u32, u32)>) -> Vec<u8> {
+    let bytes = |(number, value): (u32, u32)| u64::from(number) | u64::from(value) << 32;
+    records.into_iter().flat_map(|record| bytes(record).to_le_bytes()).collect()
+}
+
+/// So many data records, `line` to a line; the first line has `taken` already. Now and then another
+/// record stands where a word is due, or the words end there: among the first, at either end of a
+/// line, or anywhere.
+fn data(rng: &mut Rng, words: u64, line: u64, taken: u64) -> Vec<(u32, u32)> {
+    let word = |rng: &mut Rng| u32::from(rng.any() as u16);
+    let mut records: Vec<(u32, u32)> = (0..words).map(|_| (0x10000, word(rng))).collect();
+    if words == 0 || !rng.one_in(4) {
+        return records;
+    }
+    let at = match rng.below(4) {
+        0 => rng.below(words.min(3)),
+        1 => rng.below(words),
+        _ => {
+            let end = line * rng.between(1, (taken + words).div_ceil(line)) - taken;
+            (end - rng.below(2)).min(words - 1)
+        }
+    } as usize;
+    records[at] = match rng.below(4) {
+        0 => (rng.pick(&NUMBERS), rng.near(0) as u32),
+        1 | 2 => (0x10000, word(rng) | 0x1_0000 << rng.below(16)),
+        _ => (0x8000, rng.pick(&[0, 1, 0x4_0000, 0x4_0001, 0x1_0001])),
+    };
+    // The words behind it follow, or are left out; or it is left out too.
+    match rng.below(3) {
+        0 => records.truncate(at),
+        1 => records.truncate(at + 1),
+        _ => {}
+    }
+    records
+}
+
 /// A stream that no compiling made: blits of any offset and direction, mostly accepted.
 pub fn foreign(rng: &mut Rng) -> Vec<u8> {
     let mut records: Vec<(u32, u32)> = Vec::new();
     for _ in 0..rng.below(5) {
         let operation = match rng.below(48) {
             0 => rng.below(16),
-            _ => rng.pick(&[0, 2, 2, 3, 3, 12]),
+            _ => rng.pick(&[0, 0, 2, 2, 3, 3, 12]),
         };
         let pixel = rng.between(1, 2);
         let most = if rng.one_in(16) { 1024 } else { 48 };
@@ -364,23 +400,15 @@ pub fn foreign(rng: &mut Rng) -> Vec<u8> {
         setup.push((0x8000, 1 | (pixel - 1) << 18));
         records.extend(setup.iter().map(|&(number, value)| (number, value as u32)));
         if operation == 0 {
-            let mut words = (width * pixel).div_ceil(2) * height;
+            let line = (width * pixel).div_ceil(2);
+            let mut words = line * height;
             if rng.one_in(16) {
                 words = words + 1 - 2 * rng.below(2);
             }
-            // Now and then another record stands where a word is due.
-            let cut = rng.one_in(8).then(|| rng.below(words.clamp(1, 3)));
-            let words = cut.unwrap_or(words);
-            records.extend((0..words).map(|_| (0x10000, u32::from(rng.any() as u16))));
-            if cut.is_some() {
-                let control = (0x8000, rng.pick(&[0, 1, 0x4_0000, 0x4_0001, 0x1_0001]));
-                let other = (rng.pick(&NUMBERS), rng.near(0) as u32);
-                records.push(if rng.one_in(3) { other } else { control });
-            }
+            records.extend(data(rng, words, line, 0));
         }
     }
-    let bytes = |(number, value): (u32, u32)| u64::from(number) | u64::from(value) << 32;
-    records.into_iter().flat_map(|record| bytes(record).to_le_bytes()).collect()
+    stream_of(records)
 }
 
 /// Changes a stream in one place.
@@ -436,6 +464,7 @@ pub fn player(rng: &mut Rng) -> (Player, Vec<u8>) {
     }
     // Often a small blit at either end of the memory; bits outside the fields are any.
     if rng.one_in(2) {
+        player.registers[6] = rng.any() as u32;
         player.registers[7] = rng.any() as u32 & !0xF | rng.pick(&[0, 2, 3, 12]);
         player.registers[8] = (rng.any() << 18) as u32;
         player.registers[9] =
@@ -451,6 +480,13 @@ pub fn player(rng: &mut Rng) -> (Player, Vec<u8>) {
         _ => (end - 1 - rng.below(end.min(4))) as u16,
     };
     (player.line, player.word) = (at(height), at(words));
+    // Often the next word stands at the memory's end.
+    if rng.one_in(3) {
+        let offset = u64::from(player.registers[10] % 0x800);
+        let away = 2 * (offset * u64::from(player.line) + u64::from(player.word));
+        let to = (MEMORY + 2 - rng.below(16)).wrapping_sub(away) % MEMORY;
+        player.registers[9] = (rng.any() << 18 | to) as u32;
+    }
     player.due = rng.pick(&[0, 0, 1, 1, 1, 2, 0x100, 0x8000_0000]);
     player.count = match rng.below(4) {
         0 => rng.below(100),
@@ -473,8 +509,8 @@ pub fn player(rng: &mut Rng) -> (Player, Vec<u8>) {
         _ if due <= 100 && !rng.one_in(4) => due,
         _ => rng.below(40),
     };
-    let word = |rng: &mut Rng| 0x10000 | u64::from(rng.any() as u16) << 32;
-    let mut stream: Vec<u8> = (0..count).flat_map(|_| word(rng).to_le_bytes()).collect();
+    let taken = u64::from(player.word).min(words - 1);
+    let mut stream = stream_of(data(rng, count, words, taken));
     if rng.one_in(2) {
         // A start on the registers as they are.
         stream.extend((0x8000 | rng.pick(&[1u64, 0x4_0001]) << 32).to_le_bytes());

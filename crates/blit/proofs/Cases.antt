@@ -1,5 +1,5 @@
 -- Cases on eight bytes, by computation: 01's B2 and B3, on the line 1 2 3 4 5 6 7 8 a move of seven bytes by one to the right
--- and to the left under code Ch, and what the wrong direction makes of each; and writes of two lines at both depths.
+-- and to the left under code Ch, and what the wrong direction makes of each; and writes of two lines, and of words, at both depths.
 use mathlib.Core.Path.{_≡_, refl, ap}
 use mathlib.Core.Bool.{Bool, true, false, cond}
 use mathlib.Core.List.{List, [], _∷_, map}
@@ -11,7 +11,7 @@ use Rattle.pixel.specs.Pixel.{getPixel, putPixel, byteOf}
 use Rattle.pixel.specs.Raster.{bitwise, raster}
 use Rattle.blit.specs.Blit.{Blit, given, memory, positive, negative, pixels, chipLine, chipLines, chipBlit, directionOf, fromLast, starting}
 use Rattle.blit.specs.Rectangle.{inside, paintedPixel, paintedByte, painted}
-use Rattle.blit.specs.Words.{wordPixel, hostPixel, chipWord}
+use Rattle.blit.specs.Words.{wordPixel, hostPixel, chipWord, chipWords, wordBytes}
 use Rattle.blit.specs.Job.{blitOf, performed, LineIn, SourceIn, JobOk}
 use Rattle.blit.specs.Line.{rank, lagged, workLine, copies, straightLine, copied}
 use Rattle.blit.specs.declared.Mix.{Mix}
@@ -67,6 +67,22 @@ wide-lines = refl
 pub odd-word : chipWord (writeOf 1 3 []) 1 1 0x2322 line8 ≡ 1 ∷ 2 ∷ 3 ∷ 4 ∷ 5 ∷ 6 ∷ 0x22 ∷ 8 ∷ []
 unfolding getPixel putPixel pixels wordPixel chipWord
 odd-word = refl
+
+-- the words of a line one after another: all of line 1, its fourth byte ignored; its last word alone; two words from the middle of a
+-- line on, and up to its end; and at two bytes to a pixel all of line 1, and two words from the middle of a line on
+pub word-runs : (chipWords (writeOf 1 3 []) 1 0 (0x0B0A ∷ 0x0D0C ∷ []) line8 ≡ 1 ∷ 2 ∷ 3 ∷ 4 ∷ 0xA ∷ 0xB ∷ 0xC ∷ 8 ∷ [])
+    × (chipWords (writeOf 1 3 []) 1 1 (0x0D0C ∷ []) line8 ≡ 1 ∷ 2 ∷ 3 ∷ 4 ∷ 5 ∷ 6 ∷ 0xC ∷ 8 ∷ [])
+    × (chipWords (writeOf 1 7 []) 0 1 (0x0B0A ∷ 0x0D0C ∷ []) line8 ≡ 1 ∷ 2 ∷ 0xA ∷ 0xB ∷ 0xC ∷ 0xD ∷ 7 ∷ 8 ∷ [])
+    × (chipWords (writeOf 1 7 []) 0 2 (0x0B0A ∷ 0x0D0C ∷ []) line8 ≡ 1 ∷ 2 ∷ 3 ∷ 4 ∷ 0xA ∷ 0xB ∷ 0xC ∷ 8 ∷ [])
+    × (chipWords (writeOf 2 2 []) 1 0 (0x0B0A ∷ 0x0D0C ∷ []) line8 ≡ 1 ∷ 2 ∷ 3 ∷ 4 ∷ 0xA ∷ 0xB ∷ 0xC ∷ 0xD ∷ [])
+    × (chipWords (writeOf 2 4 []) 0 1 (0x0B0A ∷ 0x0D0C ∷ []) line8 ≡ 1 ∷ 2 ∷ 0xA ∷ 0xB ∷ 0xC ∷ 0xD ∷ 7 ∷ 8 ∷ [])
+unfolding getPixel putPixel pixels wordPixel chipWord chipWords
+word-runs = (refl, refl, refl, refl, refl, refl)
+
+-- the bytes of two words, in the order of the pixels
+pub word-bytes : wordBytes (0x0B0A ∷ 0x0D0C ∷ []) ≡ 0xA ∷ 0xB ∷ 0xC ∷ 0xD ∷ []
+unfolding wordBytes
+word-bytes = refl
 
 -- lines of the line functions: bytes copied, pixels stored side by side, a line drawn without smear, smeared upwards and downwards
 -- where its source is its own pixel before, and exclusive or of a wide pixel

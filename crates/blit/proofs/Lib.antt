@@ -3,6 +3,7 @@ pub mod Painted
 pub mod Frontier
 pub mod Direction
 pub mod Words
+pub mod LineWords
 pub mod Cases
 pub mod Worker
 pub mod Straight

@@ -1,6 +1,6 @@
 -- Host words of a write blit (01, "Blits": "Write takes, for each line, (width + 1) ÷ 2 words at depth 8, low byte first,
 -- spare high byte ignored; width words at 16").
-use Prim.Native.Nat.{ℕ, _+_, _-_, _*_, _/_, _%_, min}
+use Prim.Native.Nat.{ℕ, suc, _+_, _-_, _*_, _/_, _%_, min}
 use mathlib.Core.List.{List, [], _∷_}
 use lib.ListN.{getD}
 use Rattle.pixel.specs.Pixel.{getPixel}
@@ -31,3 +31,13 @@ chipWord b j t word old =
     (λ i. b .destination + offset b (first + i) j)
     (λ m i. wordPixel (b .bytes) word i)
     (min (perWord (b .bytes)) (b .width - first)) old
+
+-- words of line j come one after another, from word t on
+unfoldable pub chipWords : Blit → ℕ → ℕ → List ℕ → List ℕ → List ℕ
+chipWords b j t [] old = old
+chipWords b j t (w ∷ ws) old = chipWords b j (suc t) ws (chipWord b j t w old)
+
+-- the bytes of words, the low one first
+unfoldable pub wordBytes : List ℕ → List ℕ
+wordBytes [] = []
+wordBytes (w ∷ ws) = w % 256 ∷ w / 256 % 256 ∷ wordBytes ws

@@ -1,10 +1,9 @@
 // The blit engine: fills, moves and host words over a lent memory, line by line.
 ghost use mathlib.Core.Path.{_≡_};
-ghost use mathlib.Core.List.{[], _∷_};
-ghost use Prim.Native.Nat.{_+_, _*_, _/_, _%_, _≤_, _<_};
+ghost use Prim.Native.Nat.{_+_, _*_, _≤_, _<_};
 ghost use lib.ListN.{length, replicate};
+ghost use Rattle.pixel.specs.Pixel.{getPixel};
 ghost use Rattle.blit.specs.Blit.{pixels, chipLine, towards};
-ghost use Rattle.blit.specs.Words.{perWord, wordPixel};
 ghost use Rattle.blit.specs.Job.{mixOf, blitOf, performed, JobOk};
 ghost use Rattle.blit.specs.Line.{straightLine, copied};
 ghost use Rattle.blit.specs.declared.From.the-variants.{Colour, Memory};
@@ -138,19 +137,11 @@ pub fn perform(job: Job, memory: &mut [u8])
     }
 }
 
-// The two bytes of a host word, the low one first.
-fn word_bytes(word: u16) -> [u8; 2]
-    ensures { λ r. ⌜ r ≡ word % 256 ∷ word / 256 ∷ [] ⌝ }
+// Pixels of a source line, drawn from an address on.
+pub fn put_line(bytes: usize, mix: Mix, at: usize, count: usize, source: &[u8], memory: &mut [u8])
+    requires { ⌜ (0 < bytes) × (bytes ≤ 2) × (count ≤ 1024) × (count * bytes ≤ length (now source)) × (at + count * bytes ≤ length (now memory)) ⌝ }
+    ensures { λ _. ⌜ now (memory .exit) ≡ pixels bytes (mixOf mix bytes) (λ i. at + i * bytes) (λ m i. getPixel bytes (now (source .entry)) (i * bytes)) count (now (memory .entry)) ⌝ }
 {
-    [(word % 256) as u8, (word / 256) as u8]
-}
-
-// The first pixels of a host word, drawn from an address on.
-pub fn put_word(bytes: usize, mix: Mix, at: usize, count: usize, word: u16, memory: &mut [u8])
-    requires { ⌜ (0 < bytes) × (bytes ≤ 2) × (count ≤ perWord bytes) × (at + count * bytes ≤ length (now memory)) ⌝ }
-    ensures { λ _. ⌜ now (memory .exit) ≡ pixels bytes (mixOf mix bytes) (λ i. at + i * bytes) (λ m i. wordPixel bytes word i) count (now (memory .entry)) ⌝ }
-{
-    let source = word_bytes(word);
     let e = at + count * bytes;
-    blit_line::line_worker(&mut memory[at..e], false, bytes, count, mix, &source, count);
+    blit_line::line_worker(&mut memory[at..e], false, bytes, count, mix, source, count);
 }

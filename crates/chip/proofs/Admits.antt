@@ -29,7 +29,7 @@ pub numbered : (m : ℕ) (c : Chip) (r : Record) → Numbered (admitRows m c r)
 unfolding Numbered admitRows
 numbered m c r = (omega arith, (omega arith, (omega arith, (omega arith, tt))))
 
-is-true : (a : Bool) → not a ≡ false → a ≡ true
+pub is-true : (a : Bool) → not a ≡ false → a ≡ true
 is-true true e = refl
 is-true false e = sym e
 

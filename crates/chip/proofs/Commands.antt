@@ -4,12 +4,12 @@ use mathlib.Core.Path.{_≡_, refl, sym, ap, _∙_, subst}
 use mathlib.Core.Bool.{Bool, true, false, _&&_, cond}
 use mathlib.Core.List.{List, [], _∷_, _++_}
 use mathlib.Core.Logic.{⊎-elim}
-use native.Mathlib.Nat.{add-zero, suc-mul, mul-le-mul, mul-le-mul-right}
+use native.Mathlib.Nat.{add-zero, suc-mul, mul-le-mul-right}
 use native.Mathlib.Numerals.{add-one}
 use native.Mathlib.Omega.{arith}
 use lib.Dec.{eqb}
 use lib.ListN.{length, getD}
-use borrow.Author.Tests.{eq-eqb, ne-eqb, le-leb, lt-ltb, le-ltb}
+use borrow.Author.Tests.{eq-eqb, ne-eqb, le-leb}
 use Rattle.record.specs.Checks.{firstOf}
 use Rattle.record.specs.Record.{recordWith}
 use Rattle.record.specs.declared.Record.{Record}
@@ -27,6 +27,7 @@ use Rattle.chip.specs.declared.Due.{Due}
 use Rattle.chip.specs.declared.Registers.{Registers}
 use Rattle.chip.proofs.Plays.{Plays, plays-none, plays-cons, plays-one, plays-append, plays-from}
 use Rattle.chip.proofs.Admits.{not-started}
+use Rattle.chip.proofs.Dues.{dueAt, some-words, same-line, next-line, last-word}
 
 -- ---- one record
 
@@ -134,7 +135,7 @@ module _ (m : ℕ) (b : Registers) (f : InFields b) (can : startable b ≡ true)
 
 -- a chip that waits for word t of line j
 abbrev pub waiting : ScreenValues → Registers → ℕ → ℕ → Chip
-waiting s b j t = record { screen = s; blit = b; due = record { any = true; line = j; word = t } }
+waiting s b j t = record { screen = s; blit = b; due = dueAt j t }
 
 unfoldable pub wordWrites : List ℕ → List Record
 wordWrites [] = []
@@ -146,33 +147,10 @@ AllWords (w ∷ ws) = (w < 65536) × AllWords ws
 
 -- one word, with the records behind it
 word-played : (m : ℕ) (s : ScreenValues) (b : Registers) (j t w : ℕ) (rs : List Record) (old : List ℕ) {c : Chip} {new : List ℕ} → w < 65536
-    → Plays m (record { screen = s; blit = b; due = dueAfter b (record { any = true; line = j; word = t }) }) rs (chipWord (writeOf b (λ i k. 0)) j t w old) c new
+    → Plays m (record { screen = s; blit = b; due = dueAfter b (dueAt j t) }) rs (chipWord (writeOf b (λ i k. 0)) j t w old) c new
     → Plays m (waiting s b j t) (recordWith 0x10000 w ∷ rs) old c new
 unfolding chipAfter screenAfter blitAfter effect
 word-played m s b j t w rs old h p = plays-cons (word-taken m _ w h refl) p
-
--- which word is due after word t of line j
-module _ (b : Registers) (j t : ℕ) where
-  abbrev due-now : Due
-  due-now = record { any = true; line = j; word = t }
-
-  same-line : t + 1 < wordsAcross (bytesOf b) (widthOf b) → dueAfter b due-now ≡ record { any = true; line = j; word = t + 1 }
-  unfolding dueAfter
-  same-line h = rw (lt-ltb _ _ h)
-
-  next-line : wordsAcross (bytesOf b) (widthOf b) ≤ t + 1 → j + 1 < heightOf b → dueAfter b due-now ≡ record { any = true; line = j + 1; word = 0 }
-  unfolding dueAfter
-  next-line h k = rw (le-ltb _ _ h, lt-ltb _ _ k)
-
-  last-word : wordsAcross (bytesOf b) (widthOf b) ≤ t + 1 → heightOf b ≤ j + 1 → dueAfter b due-now ≡ noData
-  unfolding dueAfter
-  last-word h k = rw (le-ltb _ _ h, le-ltb _ _ k)
-
--- every line has words
-some-words : (b : Registers) → 0 < wordsAcross (bytesOf b) (widthOf b)
-some-words b =
-    let p : 1 * 1 ≤ widthOf b * bytesOf b = mul-le-mul {n₁ = 1} {m₁ = 1} {n₂ = widthOf b} {m₂ = bytesOf b} (omega arith) (omega arith) in
-    omega arith
 
 module _ (m : ℕ) (s : ScreenValues) (b : Registers) (words old : List ℕ) where
   abbrev per : ℕ
@@ -257,10 +235,10 @@ module _ (m : ℕ) (s : ScreenValues) (b : Registers) (words old : List ℕ) whe
   words-left (w ∷ ws) j t a l =
       word-played m s b j t w (wordWrites ws) (so-far j t) (a .0)
       (⊎-elim
-      (λ p. plays-from (ap at (same-line b j t p)) (drawn-on w ws j t l p) (words-left ws j (t + 1) (a .1) (stay w ws j t l p)))
+      (λ p. plays-from (ap at (same-line b (dueAt j t) p)) (drawn-on w ws j t l p) (words-left ws j (t + 1) (a .1) (stay w ws j t l p)))
       (λ p. ⊎-elim
-      (λ q. plays-from (ap at (next-line b j t p q)) (drawn-line w ws j t l p) (words-left ws (j + 1) 0 (a .1) (turn w ws j t l p q)))
-      (λ q. plays-from (ap at (last-word b j t p q)) (drawn-line w ws j t l p) (finished ws j (none-left w ws j t l p q) (omega (arith, l .line))))
+      (λ q. plays-from (ap at (next-line b (dueAt j t) p q)) (drawn-line w ws j t l p) (words-left ws (j + 1) 0 (a .1) (turn w ws j t l p q)))
+      (λ q. plays-from (ap at (last-word b (dueAt j t) p q)) (drawn-line w ws j t l p) (finished ws j (none-left w ws j t l p q) (omega (arith, l .line))))
       (below-or-not (j + 1) (heightOf b)))
       (below-or-not (t + 1) per))
 

@@ -1,5 +1,7 @@
 pub mod Runs
 pub mod Admits
+pub mod Dues
+pub mod Words
 pub mod Answers
 pub mod Tables
 pub mod Plays

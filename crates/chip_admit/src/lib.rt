@@ -1,13 +1,14 @@
-// The chip's registers, and admitting the records of a stream on registers and sizes alone.
+// The registers once a record is written, and admitting the records of a stream on registers and sizes alone.
 ghost use mathlib.Core.Path.{_≡_};
 ghost use mathlib.Core.Bool.{false, cond};
-ghost use Prim.Native.Nat.{_≤_};
-ghost use Rattle.record.specs.Record.{recordsOf};
-ghost use Rattle.blit.specs.Words.{wordsAcross};
+ghost use Prim.Native.Nat.{_+_, _-_, _/_, _≤_};
+ghost use lib.ListN.{length};
+ghost use Rattle.record.specs.Record.{recordsFrom, recordsOf};
 ghost use Rattle.chip.specs.Register.{listed, fits, screenAfter, blitAfter};
-ghost use Rattle.chip.specs.Start.{operation, rasterCode, bytesOf, sourceOf, destinationOf, lineOf, widthOf, heightOf, foregroundOf, byBlit, sourceFits, startable, span, forward, backward, within};
-ghost use Rattle.chip.specs.Admit.{isData, starts, refusal, dueAfter, dueOf, chipAfter};
+ghost use Rattle.chip.specs.Start.{byBlit, sourceFits, startable, span, forward, backward, within};
+ghost use Rattle.chip.specs.Admit.{isData, starts, refusal, dueOf, chipAfter};
 ghost use Rattle.chip.specs.Play.{newChip, run};
+ghost use Rattle.chip.specs.Words.{isWord, wordsAhead, wordsTaken};
 ghost use Rattle.record.specs.Checks.{firstOf, row};
 ghost use mathlib.Core.List.{[], _∷_};
 use chip::Chip;
@@ -97,76 +98,12 @@ pub fn blit_after(b: Registers, number: u32, value: u32) -> Registers
     }
 }
 
-// What the blit registers say, each read by its bits.
-pub fn operation_of(b: Registers) -> u32
-    ensures { λ r. ⌜ r ≡ operation b ⌝ }
-{
-    b.command % 16
-}
-
-pub fn raster_code(b: Registers) -> u8
-    ensures { λ r. ⌜ r ≡ rasterCode b ⌝ }
-{
-    (b.command / 65536 % 16) as u8
-}
-
-// Bytes of a pixel.
-pub fn bytes_of(b: Registers) -> u64
-    ensures { λ r. ⌜ r ≡ bytesOf b ⌝ }
-{
-    1 + (b.control / 262144 % 2) as u64
-}
-
-pub fn source_of(b: Registers) -> u32
-    ensures { λ r. ⌜ r ≡ sourceOf b ⌝ }
-{
-    b.source % 262144
-}
-
-pub fn destination_of(b: Registers) -> u32
-    ensures { λ r. ⌜ r ≡ destinationOf b ⌝ }
-{
-    b.destination % 262144
-}
-
-// Line length in bytes.
-pub fn line_of(b: Registers) -> u64
-    ensures { λ r. ⌜ r ≡ lineOf b ⌝ }
-{
-    2 * (b.offset % 2048) as u64
-}
-
-pub fn width_of(b: Registers) -> u64
-    ensures { λ r. ⌜ r ≡ widthOf b ⌝ }
-{
-    (b.width % 1024) as u64 + 1
-}
-
-pub fn height_of(b: Registers) -> u64
-    ensures { λ r. ⌜ r ≡ heightOf b ⌝ }
-{
-    (b.height % 1024) as u64 + 1
-}
-
-pub fn foreground_of(b: Registers) -> u16
-    ensures { λ r. ⌜ r ≡ foregroundOf b ⌝ }
-{
-    (b.foreground % 65536) as u16
-}
-
-// Data words of a line.
-fn words_of(b: Registers) -> u64
-    ensures { λ r. ⌜ (r ≡ wordsAcross (bytesOf b) (widthOf b)) × (r ≤ 1024) ⌝ }
-{
-    (width_of(b) * bytes_of(b) + 1) / 2
-}
-
 // From the first byte of the first pixel to that of the last.
 fn span_of(b: Registers) -> u64
     ensures { λ r. ⌜ (r ≡ span b) × (r ≤ 4190208) ⌝ }
 {
-    let lines = (b.height % 1024) as u64 * line_of(b);
-    let pixels = (b.width % 1024) as u64 * bytes_of(b);
+    let lines = (b.height % 1024) as u64 * chip_due::line_of(b);
+    let pixels = (b.width % 1024) as u64 * chip_due::bytes_of(b);
     lines + pixels
 }
 
@@ -187,9 +124,9 @@ fn by_blit(operation: u32, write: bool, up: bool, down: bool, fill: bool, other:
 fn source_fits(b: Registers) -> bool
     ensures { λ r. ⌜ r ≡ sourceFits b ⌝ }
 {
-    let source = source_of(b) as u64;
-    let whole = source % bytes_of(b) == 0;
-    by_blit(operation_of(b), source == 0, whole, whole, true, false)
+    let source = chip_due::source_of(b) as u64;
+    let whole = source % chip_due::bytes_of(b) == 0;
+    by_blit(chip_due::operation_of(b), source == 0, whole, whole, true, false)
 }
 
 // Refusal 21: whether the model has an operation for the start.
@@ -197,15 +134,15 @@ fn is_startable(b: Registers) -> bool
     ensures { λ r. ⌜ r ≡ startable b ⌝ }
 {
     let fits = source_fits(b);
-    let destination = destination_of(b) as u64;
-    fits & (destination % bytes_of(b) == 0)
+    let destination = chip_due::destination_of(b) as u64;
+    fits & (destination % chip_due::bytes_of(b) == 0)
 }
 
 // Whether all bytes from an address on lie in the memory.
 fn fits_forward(memory: u64, b: Registers, address: u32) -> bool
     ensures { λ r. ⌜ r ≡ forward memory b address ⌝ }
 {
-    address as u64 + span_of(b) + bytes_of(b) <= memory
+    address as u64 + span_of(b) + chip_due::bytes_of(b) <= memory
 }
 
 // Whether all bytes back from an address lie in the memory.
@@ -213,7 +150,7 @@ fn fits_backward(memory: u64, b: Registers, address: u32) -> bool
     ensures { λ r. ⌜ r ≡ backward memory b address ⌝ }
 {
     let low = span_of(b) <= address as u64;
-    let high = address as u64 + bytes_of(b) <= memory;
+    let high = address as u64 + chip_due::bytes_of(b) <= memory;
     low & high
 }
 
@@ -221,12 +158,12 @@ fn fits_backward(memory: u64, b: Registers, address: u32) -> bool
 fn is_within(memory: u64, b: Registers) -> bool
     ensures { λ r. ⌜ r ≡ within memory b ⌝ }
 {
-    let source = source_of(b);
-    let destination = destination_of(b);
+    let source = chip_due::source_of(b);
+    let destination = chip_due::destination_of(b);
     let up = fits_forward(memory, b, destination);
     let both = up & fits_forward(memory, b, source);
     let down = fits_backward(memory, b, destination) & fits_backward(memory, b, source);
-    by_blit(operation_of(b), up, both, down, up, true)
+    by_blit(chip_due::operation_of(b), up, both, down, up, true)
 }
 
 // 8000h with bit 0 set.
@@ -283,38 +220,11 @@ pub fn refusal_of(memory: u64, c: Chip, r: Record) -> u32
     register_refusal(memory, c, r)
 }
 
-// The next word that is due once one has come.
-fn due_after(b: Registers, d: Due) -> Due
-    ensures { λ r. ⌜ r ≡ dueAfter b d ⌝ }
-{
-    let words = words_of(b);
-    let height = height_of(b);
-    if d.word as u64 + 1 < words {
-        return Due {
-            any: true,
-            line: d.line,
-            word: d.word + 1,
-        };
-    }
-    if d.line as u64 + 1 < height {
-        return Due {
-            any: true,
-            line: d.line + 1,
-            word: 0,
-        };
-    }
-    Due {
-        any: false,
-        line: 0,
-        word: 0,
-    }
-}
-
 // What is due after a register write: a started write waits for its first word.
 fn due_of(b: Registers, r: Record) -> Due
     ensures { λ x. ⌜ x ≡ dueOf b r ⌝ }
 {
-    let any = starts_blit(r) & (operation_of(b) == 0);
+    let any = starts_blit(r) & (chip_due::operation_of(b) == 0);
     Due {
         any,
         line: 0,
@@ -330,16 +240,6 @@ pub fn register_after(c: Chip, r: Record) -> Chip
     let screen = screen_after(c.screen, r.number, r.value);
     let blit = blit_after(c.blit, r.number, r.value);
     let due = due_of(blit, r);
-    Chip { screen, blit, due }
-}
-
-// The chip after a data word that is not refused.
-pub fn word_after(c: Chip) -> Chip
-    ensures { λ x. ⌜ x ≡ record { screen = c .screen; blit = c .blit; due = dueAfter (c .blit) (c .due) } ⌝ }
-{
-    let screen = c.screen;
-    let blit = c.blit;
-    let due = due_after(blit, c.due);
     Chip { screen, blit, due }
 }
 
@@ -380,7 +280,44 @@ pub fn new_chip() -> Chip
     Chip { screen, blit, due }
 }
 
-// The first pass: admits the records of a stream in order, from a chip on, on registers and sizes alone.
+// Whether a record is a data word in its field.
+fn is_word(r: Record) -> bool
+    ensures { λ x. ⌜ x ≡ isWord r ⌝ }
+{
+    (r.number == 0x10000) & (r.value <= 0xFFFF)
+}
+
+// Data words at the front of so many records of a stream, from record i on.
+fn words_ahead(stream: &[u8], i: usize, most: usize) -> usize
+    requires { ⌜ i + most ≤ length (now stream) / 8 ⌝ }
+    ensures { λ r. ⌜ r ≡ wordsAhead (recordsFrom (now (stream .entry)) i most) ⌝ }
+{
+    let mut n = 0;
+    while n < most {
+        let r = record_code::record_at(stream, i + n);
+        if !is_word(r) {
+            return n;
+        }
+        n += 1;
+    }
+    most
+}
+
+// Data words from record i on that are due, of a stream's first records.
+fn words_taken(c: Chip, stream: &[u8], i: usize, count: usize) -> usize
+    requires { ⌜ (i ≤ count) × (count ≤ length (now stream) / 8) ⌝ }
+    ensures { λ r. ⌜ r ≡ wordsTaken c (recordsFrom (now (stream .entry)) i (count - i)) ⌝ }
+{
+    let d = c.due;
+    if !d.any {
+        return 0;
+    }
+    let most = record_code::least(chip_due::words_due(c.blit, d) as usize, count - i);
+    words_ahead(stream, i, most)
+}
+
+// The first pass: admits the records of a stream in order, from a chip on, on registers and sizes alone. Due data words are taken
+// at once, by their number and field.
 pub fn check(memory: u64, start: Chip, stream: &[u8]) -> Run
     ensures { λ r. ⌜ r ≡ run memory start 0 (recordsOf (now (stream .entry))) ⌝ }
 {
@@ -388,21 +325,23 @@ pub fn check(memory: u64, start: Chip, stream: &[u8]) -> Run
     let mut chip = start;
     let mut i = 0;
     while i < count {
-        let r = record_code::record_at(stream, i);
-        let number = refusal_of(memory, chip, r);
-        if number != 0 {
-            return Run {
-                number,
-                place: i as u64,
-                chip,
-            };
-        }
-        if r.number == 0x10000 {
-            chip = word_after(chip);
-        } else {
+        let n = words_taken(chip, stream, i, count);
+        if n == 0 {
+            let r = record_code::record_at(stream, i);
+            let number = refusal_of(memory, chip, r);
+            if number != 0 {
+                return Run {
+                    number,
+                    place: i as u64,
+                    chip,
+                };
+            }
             chip = register_after(chip, r);
+            i += 1;
+        } else {
+            chip = chip_due::words_after(chip, n as u64);
+            i += n;
         }
-        i += 1;
     }
     Run {
         number: 0,

@@ -1,11 +1,11 @@
 -- Records out of a stream's bytes.
-use Prim.Native.Nat.{ℕ, zero, suc, _+_, _-_, _*_, _/_, _%_, _^_, _<_}
+use Prim.Native.Nat.{ℕ, zero, suc, _+_, _-_, _*_, _/_, _%_, _^_, _≤_, _<_, min}
 use mathlib.Core.Path.{_≡_, refl, sym, ap, _∙_}
 use mathlib.Core.List.{List, [], _∷_, _++_}
-use native.Mathlib.Nat.{div-div-eq-div-mul, div-add-mod', mod-eq-of-lt}
+use native.Mathlib.Nat.{add-zero, zero-add, suc-add, zero-min, min-zero, div-div-eq-div-mul, div-add-mod', mod-eq-of-lt}
 use native.Mathlib.Numerals.{add-one}
 use native.Mathlib.Omega.{arith}
-use lib.ListN.{length, getD}
+use lib.ListN.{length, getD, take}
 use Rattle.record.specs.Bytes.{byteAt, u16At, u32At}
 use Rattle.record.specs.Record.{recordBytes, streamBytes, recordAt, recordsFrom, recordsOf}
 use Rattle.record.specs.declared.Record.{Record}
@@ -38,6 +38,26 @@ length-from s i (suc n) = ap suc (length-from s (suc i) n)
 pub length-records : (s : List ℕ) → length (recordsOf s) ≡ length s / 8
 unfolding recordsOf
 length-records s = length-from s 0 (length s / 8)
+
+-- some records, and those behind them
+records-split : (s : List ℕ) (i k n : ℕ) → recordsFrom s i (k + n) ≡ recordsFrom s i k ++ recordsFrom s (i + k) n
+unfolding recordsFrom
+records-split s i zero n = λ t. recordsFrom s (sym (add-zero i) t) (zero-add n t)
+records-split s i (suc k) n =
+    let e : suc i + k ≡ i + suc k = omega arith in
+    ap (recordsFrom s i) (suc-add k n)
+    ∙ (λ t. recordAt s i ∷ (records-split s (suc i) k n ∙ ap (λ (j : ℕ). recordsFrom s (suc i) k ++ recordsFrom s j n) e) t)
+
+pub records-run : (s : List ℕ) (i k n : ℕ) → i + k ≤ n → recordsFrom s i (n - i) ≡ recordsFrom s i k ++ recordsFrom s (i + k) (n - (i + k))
+records-run s i k n h = let e : n - i ≡ k + (n - (i + k)) = omega arith in ap (recordsFrom s i) e ∙ records-split s i k (n - (i + k))
+
+pub records-take : (s : List ℕ) (k i n : ℕ) → take k (recordsFrom s i n) ≡ recordsFrom s i (min k n)
+unfolding recordsFrom
+records-take s zero i n = ap (recordsFrom s i) (sym (zero-min n))
+records-take s (suc k) i zero = ap (recordsFrom s i) (sym (min-zero (suc k)))
+records-take s (suc k) i (suc n) =
+    let e : min (suc k) (suc n) ≡ suc (min k n) = omega arith in
+    (λ t. recordAt s i ∷ records-take s k (suc i) n t) ∙ ap (recordsFrom s i) (sym e)
 
 -- ---- the bytes of a number give the number
 digits : (n a b c r₀ r₁ r₂ : ℕ) → a * 256 + r₀ ≡ n → b * 256 + r₁ ≡ a → c * 256 + r₂ ≡ b → r₀ + 256 * r₁ + 65536 * (r₂ + 256 * c) ≡ n

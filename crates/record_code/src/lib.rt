@@ -39,14 +39,13 @@ pub fn u32_at(b: &[u8], at: usize) -> u32
 pub fn all_zero(b: &[u8]) -> bool
     ensures { λ r. ⌜ r ≡ allZero (now (b .entry)) ⌝ }
 {
+    let mut zero = true;
     let mut i = 0;
     while i < b.len() {
-        if b[i] != 0 {
-            return false;
-        }
+        zero = zero & (b[i] == 0);
         i += 1;
     }
-    true
+    zero
 }
 
 // Stores the low 32 bits of a number at `at`, lowest byte first.

@@ -135,7 +135,7 @@ impl Timing {
         row(what, of, amount, None, ours, theirs);
     }
 
-    /// Plays one command that covers `bytes` bytes, with the plain form of the same beside it.
+    /// Plays commands that cover `bytes` bytes, with the plain form of the same beside it.
     fn play(&mut self, what: &str, stream: &[u8], bytes: usize, plain: Plain) {
         let mut memory = self.memory();
         let (mut other, mut third) = (memory.clone(), memory.clone());
@@ -307,6 +307,12 @@ fn main() {
             timing.play(&format!("write{name}, depth {depth}"), &stream, RECTANGLE, None);
         }
     }
+
+    // A line has six words, the last with a spare byte.
+    let columns: Vec<u8> =
+        (0..40).flat_map(|i| command(2, 0xC, [12 * i, 8, 11, 480, 0, 0, 0])).collect();
+    let stream = compiled(&bytes, &columns, &pixels[..40 * 480 * 6]);
+    timing.play("write of short odd lines, depth 8", &stream, 40 * 480 * 11, None);
 
     let fills: Vec<u8> = (0..64)
         .flat_map(|i| command(0, 0, [i % 8 * 50 + i, i / 8 * 50 + i, 8, 8, 0, 0, i]))

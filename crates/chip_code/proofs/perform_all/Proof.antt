@@ -1,22 +1,23 @@
 -- The loop: what is left of the records, applied to the memory so far, is all of them applied; and it is not refused.
 use mathlib.Core.Path.{_≡_, refl, sym, ap, _∙_}
 use mathlib.Core.List.{List}
-use mathlib.Core.Logic.{⊎-elim}
+use mathlib.Core.Bool.{false}
 use Prim.Native.Nat.{ℕ, _+_, _-_, _≤_, _<_, _^_}
 use native.Mathlib.Nat.{sub-zero}
 use native.Mathlib.Omega.{arith}
 use borrow.Author.Needs.{needs}
-use borrow.Author.Tests.{ne-eqb}
 use lib.ListN.{length}
 use Rattle.record.specs.Record.{recordAt, recordsFrom}
 use Rattle.record.specs.declared.Record.{Record}
 use Rattle.record.proofs.Records.{records-end}
 use Rattle.screen.specs.Screen.{memorySize}
-use Rattle.chip.specs.Admit.{refusal, chipAfter, effect}
+use Rattle.chip.specs.Admit.{isData, refusal, chipAfter, effect}
 use Rattle.chip.specs.Play.{run, applied}
+use Rattle.chip.specs.Words.{dueInLine}
 use Rattle.chip.specs.declared.Chip.{Chip}
-use Rattle.chip.proofs.Admits.{data-after}
+use Rattle.chip.specs.declared.Run.{Run}
 use Rattle.chip.proofs.Runs.{applied-end, applied-next, admitted-next}
+use Rattle.chip.proofs.Words.{Taken, admitted-register, admitted-run, run-words, applied-words}
 use Rattle.chip_code.proofs.perform_all.Statement.{statement}
 use Rattle.chip_code.proofs.perform_all.Tie as tie
 
@@ -28,60 +29,112 @@ abbrev μ-loop : tie.MeasureT-loop
 
 loop-holds : tie.Need-loop-holds Inv-loop μ-loop
 loop-holds c =
-    let s = c .before .before in
-    let a = s .args in (
+    let a = c .before .before .args in (
       omega arith,
       (λ t. applied (a .start) (recordsFrom (a .stream .now) 0 (sym (sub-zero (a .count)) t)) (a .memory .now)),
-      (λ t. run memorySize (a .start) 0 (recordsFrom (a .stream .now) 0 (sub-zero (a .count) t)) .number) ∙ s .pre .1,
+      (λ t. run memorySize (a .start) 0 (recordsFrom (a .stream .now) 0 (sub-zero (a .count) t)) .number) ∙ c .before .before .pre .1,
       refl,
     )
 
+line-due-requires : tie.Need-line-due-requires Inv-loop μ-loop
+line-due-requires c κs = search needs
+
+sub-least : tie.Need-sub-least Inv-loop μ-loop
+sub-least c = omega arith
+
+least-requires : tie.Need-least-requires Inv-loop μ-loop
+least-requires c κs = search needs
+
+-- the words of the line that are there
+fits : (c : tie.After-least Inv-loop μ-loop) → c .before .before .before .before .before .before .loop .i + c .least .result ≤ c .before .before .before .before .before .before .before .before .before .args .count
+fits c = omega (arith, c .least .ensures)
+
+few : (c : tie.After-least Inv-loop μ-loop) → c .least .result ≤ dueInLine (c .before .before .before .before .before .before .loop .chip .blit) (c .before .before .before .before .before .before .loop .chip .due)
+few c = omega (arith, c .least .ensures, c .before .line-due .ensures .0)
+
+some : (c : tie.After-least Inv-loop μ-loop) → 0 < c .least .result
+some c = omega (arith, c .least .ensures, c .before .line-due .ensures .1)
+
+due : (c : tie.After-least Inv-loop μ-loop) → Taken (c .before .before .before .before .before .before .loop .chip) (c .before .before .before .before .before .before .before .before .before .args .stream .now) (c .before .before .before .before .before .before .loop .i) (c .before .before .before .before .before .before .before .before .before .args .count) (c .least .result)
+due c =
+    let l = c .before .before .before .before .before .before .loop in
+    admitted-run memorySize (l .chip) (c .before .before .before .before .before .before .before .before .before .args .stream .now) (l .i) (c .before .before .before .before .before .before .before .before .before .args .count) (c .least .result) (c .before .before .before .if1 .taken) (fits c) (few c) (l .inv .2)
+
+write-line-requires : tie.Need-write-line-requires Inv-loop μ-loop
+write-line-requires c κs = (omega (arith, fits (c .before), c .before .before .before .before .before .before .before .before .before .before .pre .0), few (c .before))
+
+line-after-requires : tie.Need-line-after-requires Inv-loop μ-loop
+line-after-requires c κs = (some (c .before .before .before .before), few (c .before .before .before .before))
+
+add-i : tie.Need-add-i Inv-loop μ-loop
+add-i c = omega (arith, fits (c .before .before .before .before .before), c .before .before .before .before .before .before .before .before .before .before .before .before .before .before .fits .count)
+
+loop-less : tie.Need-loop-less Inv-loop μ-loop
+loop-less c = omega (arith, fits (c .before .before .before .before .before), some (c .before .before .before .before .before))
+
+loop-again : tie.Need-loop-again Inv-loop μ-loop
+loop-again c =
+    let a = c .before .before .before .before .before .before .before .before .before .before .before .before .before .before .args in
+    let s = a .stream .now in
+    let n = a .count in
+    let l = c .before .before .before .before .before .before .before .before .before .before .before .loop in
+    let k = c .before .before .before .before .before .least .result in
+    let w = due (c .before .before .before .before .before) in (
+      omega (arith, fits (c .before .before .before .before .before)),
+      l .inv .1 ∙ applied-words (l .chip) s (l .i) n k (l .memory) w (few (c .before .before .before .before .before))
+          ∙ (λ t. applied (sym (c .line-after .ensures) t) (recordsFrom s (l .i + k) (n - (l .i + k))) (sym (c .before .before .before .write-line .ensures) t)),
+      ap (λ (x : Chip). run memorySize x (l .i + k) (recordsFrom s (l .i + k) (n - (l .i + k))) .number) (c .line-after .ensures)
+          ∙ ap (λ (x : Run). x .number) (sym (run-words memorySize (l .chip) s (l .i) n k w)) ∙ l .inv .2,
+      c .before .before .before .write-line .kept .1 .1 .1 .1 .1 .0 ∙ l .inv .3,
+    )
+
 record-at-requires : tie.Need-record-at-requires Inv-loop μ-loop
-record-at-requires c κs = omega (arith, c .before .before .before .before .pre .0)
+record-at-requires c κs = omega (arith, c .before .before .before .before .before .before .pre .0)
 
-apply-requires : tie.Need-apply-requires Inv-loop μ-loop
-apply-requires c κs =
-    let s = c .before .before .before .before .before .before in
+-- record i is admitted, and so are the others after it
+next : (c : tie.Else1 Inv-loop μ-loop) → let l = c .before .before .before .loop in let s = c .before .before .before .before .before .before .args .stream .now in let n = c .before .before .before .before .before .before .args .count in
+    (refusal memorySize (l .chip) (recordAt s (l .i)) ≡ 0) × (run memorySize (chipAfter (l .chip) (recordAt s (l .i))) (l .i + 1) (recordsFrom s (l .i + 1) (n - (l .i + 1))) .number ≡ 0)
+next c =
     let l = c .before .before .before .loop in
-    let e = admitted-next memorySize (l .chip) (s .args .stream .now) (l .i) _ (omega arith) (l .inv .2) in
-    (ap (refusal memorySize (l .chip)) (c .before .record-at .ensures) ∙ e .0, l .inv .3 ∙ s .pre .2)
+    admitted-next memorySize (l .chip) (c .before .before .before .before .before .before .args .stream .now) (l .i) (c .before .before .before .before .before .before .args .count) (omega arith) (l .inv .2)
 
-word-after-requires : tie.Need-word-after-requires Inv-loop μ-loop
-word-after-requires c κs = search needs
-
-register-after-requires : tie.Need-register-after-requires Inv-loop μ-loop
-register-after-requires c κs = ne-eqb _ _ (c .if1 .left)
+register : (c : tie.After-record-at Inv-loop μ-loop) → isData (c .record-at .result) ≡ false
+register c =
+    let l = c .before .before .before .before .loop in
+    ap isData (c .record-at .ensures) ∙ admitted-register memorySize (l .chip) (recordAt (c .before .before .before .before .before .before .before .args .stream .now) (l .i)) (c .before .if1 .left) (next (c .before) .0)
 
 -- the count fits
 room : (c : tie.In-loop Inv-loop μ-loop) → c .before .loop .i + 1 < 2 ^ 64
 room c = omega arith
 
-add-i : tie.Need-add-i Inv-loop μ-loop
-add-i c = omega (arith, room (c .before .before .before .before .before .before .before))
+apply-requires : tie.Need-apply-requires Inv-loop μ-loop
+apply-requires c κs =
+    let e = next (c .before .before) in
+    (ap (refusal memorySize (c .before .before .before .before .before .loop .chip)) (c .before .record-at .ensures) ∙ e .0, register (c .before), c .before .before .before .before .before .loop .inv .3 ∙ c .before .before .before .before .before .before .before .before .pre .2)
 
-loop-less : tie.Need-loop-less Inv-loop μ-loop
-loop-less c = omega arith
+register-after-requires : tie.Need-register-after-requires Inv-loop μ-loop
+register-after-requires c κs = register (c .before .before .before .before)
 
--- the chip after record i
-next : (c : tie.Joined1 Inv-loop μ-loop) → c .if1 .chip ≡ chipAfter (c .before .before .before .before .before .before .before .before .loop .chip) (recordAt (c .before .before .before .before .before .before .before .before .before .before .before .args .stream .now) (c .before .before .before .before .before .before .before .before .loop .i))
-next c =
-    let k : Chip = c .before .before .before .before .before .before .before .before .loop .chip in
-    ⊎-elim (λ w. w .2 ∙ w .1 .ensures ∙ data-after k _ (w .0 .taken)) (λ w. w .2 ∙ w .1 .ensures) (c .if1 .came)
-    ∙ ap (chipAfter k) (c .before .before .before .before .before .before .record-at .ensures)
+add-i-2 : tie.Need-add-i-2 Inv-loop μ-loop
+add-i-2 c = omega (arith, room (c .before .before .before .before .before .before .before .before))
 
-loop-again : tie.Need-loop-again Inv-loop μ-loop
-loop-again c =
-    let a = c .before .before .before .before .before .before .before .before .before .before .before .args in
+loop-less-2 : tie.Need-loop-less-2 Inv-loop μ-loop
+loop-less-2 c = omega arith
+
+loop-again-2 : tie.Need-loop-again-2 Inv-loop μ-loop
+loop-again-2 c =
+    let a = c .before .before .before .before .before .before .before .before .before .before .before .before .args in
     let s = a .stream .now in
     let n = a .count in
-    let l = c .before .before .before .before .before .before .before .before .loop in
-    let e = admitted-next memorySize (l .chip) s (l .i) n (omega arith) (l .inv .2) in
-    let done = c .before .before .before .before .apply .ensures ∙ ap (λ (x : Record). effect (l .chip) x (l .memory)) (c .before .before .before .before .before .before .record-at .ensures) in (
+    let l = c .before .before .before .before .before .before .before .before .before .loop in
+    let e = next (c .before .before .before .before .before .before) in
+    let after = c .register-after .ensures ∙ ap (chipAfter (l .chip)) (c .before .before .before .before .before .record-at .ensures) in
+    let done = c .before .before .before .apply .ensures ∙ ap (λ (x : Record). effect (l .chip) x (l .memory)) (c .before .before .before .before .before .record-at .ensures) in (
       omega arith,
       l .inv .1 ∙ applied-next (l .chip) s (l .i) n (l .memory) (omega arith)
-          ∙ (λ t. applied (sym (next c) t) (recordsFrom s (l .i + 1) (n - (l .i + 1))) (sym done t)),
-      ap (λ (x : Chip). run memorySize x (l .i + 1) (recordsFrom s (l .i + 1) (n - (l .i + 1))) .number) (next c) ∙ e .1,
-      c .before .before .before .before .apply .kept .1 .1 .0 ∙ l .inv .3,
+          ∙ (λ t. applied (sym after t) (recordsFrom s (l .i + 1) (n - (l .i + 1))) (sym done t)),
+      ap (λ (x : Chip). run memorySize x (l .i + 1) (recordsFrom s (l .i + 1) (n - (l .i + 1))) .number) after ∙ e .1,
+      c .before .before .before .apply .kept .1 .1 .0 ∙ l .inv .3,
     )
 
 same-length : tie.Need-same-length Inv-loop μ-loop
@@ -104,12 +157,19 @@ perform-all-spec =
     Inv-loop
     μ-loop
     loop-holds
-    record-at-requires
-    apply-requires
-    word-after-requires
-    register-after-requires
+    line-due-requires
+    sub-least
+    least-requires
+    write-line-requires
+    line-after-requires
     add-i
     loop-less
     loop-again
+    record-at-requires
+    apply-requires
+    register-after-requires
+    add-i-2
+    loop-less-2
+    loop-again-2
     same-length
     returns)
