@@ -288,7 +288,7 @@ fn is_word(r: Record) -> bool
 }
 
 // Data words at the front of so many records of a stream, from record i on.
-fn words_ahead(stream: &[u8], i: usize, most: usize) -> usize
+pub fn words_ahead(stream: &[u8], i: usize, most: usize) -> usize
     requires { ⌜ i + most ≤ length (now stream) / 8 ⌝ }
     ensures { λ r. ⌜ r ≡ wordsAhead (recordsFrom (now (stream .entry)) i most) ⌝ }
 {
