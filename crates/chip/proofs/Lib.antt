@@ -7,6 +7,7 @@ pub mod Tables
 pub mod Plays
 pub mod Commands
 pub mod Cases
+pub mod WordCases
 pub mod Starts
 pub mod Lengths
 pub mod Screens

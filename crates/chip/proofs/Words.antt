@@ -53,13 +53,13 @@ unfolding listed
 word-admitted m c r due e =
     let n = is-data r e in
     admits-back m c r (
-      record {
-        listed = rw n;
-        field = and-right (isData r) (fits (r .number) (r .value)) e;
-        startable = λ s. absurd (no-start r n s);
-        within = λ s. absurd (no-start r n s);
-        order = rw (n, due);
-      })
+    record {
+      listed = rw n;
+      field = and-right (isData r) (fits (r .number) (r .value)) e;
+      startable = λ s. absurd (no-start r n s);
+      within = λ s. absurd (no-start r n s);
+      order = rw (n, due);
+    })
 
 -- what is admitted while data is due is a data word
 data-only : (t : Bool) → cond t false true ≡ false → t ≡ true
@@ -105,9 +105,11 @@ admitting-no-other m c i (r ∷ []) rest due few e = (admitted-word m c r due (a
 admitting-no-other m c i (r ∷ (s ∷ ws)) rest due few e =
     let a = admitted m c i r (s ∷ (ws ++ rest)) e in
     let w = admitted-word m c r due (a .0) in
-    let more = more-due (c .blit) (c .due) (omega (arith, few)) in
-    (w, admitting-no-other m (after-word c) (suc i) (s ∷ ws) rest (more .any) (omega (arith, few, more .left))
-    (ap (λ (x : Chip). run m x (suc i) (s ∷ (ws ++ rest)) .number) (data-after c r (is-data r w)) ∙ a .1))
+    let more = more-due (c .blit) (c .due) (omega (arith, few)) in (
+      w,
+      admitting-no-other m (after-word c) (suc i) (s ∷ ws) rest (more .any) (omega (arith, few, more .left))
+          (ap (λ (x : Chip). run m x (suc i) (s ∷ (ws ++ rest)) .number) (data-after c r (is-data r w)) ∙ a .1),
+    )
 
 -- a data word goes into the due word's line
 drawn : (c : Chip) (r : Record) (old : List ℕ) → isWord r ≡ true
@@ -182,7 +184,7 @@ module _ (s : List ℕ) (i most : ℕ) where
     one-found w =
         let e : i + n + 1 ≡ i + (n + 1) = omega arith in
         let step = ap wordsAhead (records-step s (i + n) (i + most) (omega arith)) ∙ ahead-more (recordAt s (i + n)) _ w
-            ∙ ap (λ (k : ℕ). suc (wordsAhead (recordsFrom s k (i + most - k)))) e in
+        ∙ ap (λ (k : ℕ). suc (wordsAhead (recordsFrom s k (i + most - k)))) e in
         omega (arith, f, step)
 
     pub all-found : isWord (recordAt s (i + n)) ≡ false → n ≡ wordsAhead (recordsFrom s i most)
@@ -283,10 +285,10 @@ admitted-run m c s i n k any fits few e =
 pub applied-words : (c : Chip) (s : List ℕ) (i n k : ℕ) (old : List ℕ) → Taken c s i n k → k ≤ dueInLine (c .blit) (c .due)
     → applied c (recordsFrom s i (n - i)) old
     ≡ applied (chipAfterWords c k) (recordsFrom s (i + k) (n - (i + k)))
-      (chipWords (writeOf (c .blit) (λ x y. 0)) (c .due .line) (c .due .word) (valuesOf (recordsFrom s i k)) old)
+    (chipWords (writeOf (c .blit) (λ x y. 0)) (c .due .line) (c .due .word) (valuesOf (recordsFrom s i k)) old)
 applied-words c s i n k old w few =
     let e = length-from s i k in
     ap (λ (rs : List Record). applied c rs old) (records-run s i k n (w .fits))
     ∙ applying c (recordsFrom s i k) (recordsFrom s (i + k) (n - (i + k))) old (w .only) (omega (arith, e, few))
     ∙ (λ t. applied (chipAfterWords c (e t)) (recordsFrom s (i + k) (n - (i + k)))
-      (chipWords (writeOf (c .blit) (λ x y. 0)) (c .due .line) (c .due .word) (valuesOf (recordsFrom s i k)) old))
+    (chipWords (writeOf (c .blit) (λ x y. 0)) (c .due .line) (c .due .word) (valuesOf (recordsFrom s i k)) old))

@@ -19,19 +19,6 @@ use record::Record;
 use screen::Origin;
 use screen::ScreenValues;
 
-// One of two values, by a test.
-fn choose(t: bool, a: u32, b: u32) -> u32
-    ensures { λ r. ⌜ r ≡ cond t a b ⌝ }
-{
-    if t { a } else { b }
-}
-
-fn choose_wide(t: bool, a: u64, b: u64) -> u64
-    ensures { λ r. ⌜ r ≡ cond t a b ⌝ }
-{
-    if t { a } else { b }
-}
-
 // Whether a number is a listed register or 10000h.
 fn is_listed(number: u32) -> bool
     ensures { λ r. ⌜ r ≡ listed number ⌝ }
@@ -65,37 +52,37 @@ fn screen_after(s: ScreenValues, number: u32, value: u32) -> ScreenValues
     ensures { λ r. ⌜ r ≡ screenAfter s number value ⌝ }
 {
     let v = value as u64;
-    let main = s.main;
-    let window = s.window;
-    ScreenValues {
-        main: Origin {
-            start: choose_wide(number == 0x40, v, main.start),
-            offset: choose_wide(number == 0x44, v, main.offset),
-        },
-        window: Origin {
-            start: choose_wide(number == 0x50, v, window.start),
-            offset: choose_wide(number == 0x54, v, window.offset),
-        },
-        x: choose_wide(number == 0x58, v, s.x),
-        y: choose_wide(number == 0x5C, v, s.y),
+    let mut next = s;
+    match number {
+        0x40 => next.main.start = v,
+        0x44 => next.main.offset = v,
+        0x50 => next.window.start = v,
+        0x54 => next.window.offset = v,
+        0x58 => next.x = v,
+        0x5C => next.y = v,
+        _ => {}
     }
+    next
 }
 
 // The blit registers once a value is written.
 pub fn blit_after(b: Registers, number: u32, value: u32) -> Registers
     ensures { λ r. ⌜ r ≡ blitAfter b number value ⌝ }
 {
-    Registers {
-        control: choose(number == 0x8000, value, b.control),
-        command: choose(number == 0x8008, value, b.command),
-        source: choose(number == 0x800C, value, b.source),
-        destination: choose(number == 0x8010, value, b.destination),
-        offset: choose(number == 0x8014, value, b.offset),
-        width: choose(number == 0x8018, value, b.width),
-        height: choose(number == 0x801C, value, b.height),
-        background: choose(number == 0x8020, value, b.background),
-        foreground: choose(number == 0x8024, value, b.foreground),
+    let mut next = b;
+    match number {
+        0x8000 => next.control = value,
+        0x8008 => next.command = value,
+        0x800C => next.source = value,
+        0x8010 => next.destination = value,
+        0x8014 => next.offset = value,
+        0x8018 => next.width = value,
+        0x801C => next.height = value,
+        0x8020 => next.background = value,
+        0x8024 => next.foreground = value,
+        _ => {}
     }
+    next
 }
 
 // From the first byte of the first pixel to that of the last.
@@ -126,7 +113,14 @@ fn source_fits(b: Registers) -> bool
 {
     let source = chip_due::source_of(b) as u64;
     let whole = source % chip_due::bytes_of(b) == 0;
-    by_blit(chip_due::operation_of(b), source == 0, whole, whole, true, false)
+    by_blit(
+        chip_due::operation_of(b),
+        source == 0,
+        whole,
+        whole,
+        true,
+        false,
+    )
 }
 
 // Refusal 21: whether the model has an operation for the start.
