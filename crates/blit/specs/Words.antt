@@ -32,6 +32,7 @@ chipWord b j t word old =
     (λ m i. wordPixel (b .bytes) word i)
     (min (perWord (b .bytes)) (b .width - first)) old
 
+-- ---- runs of words; only contracts of the functions, and laws, cite them
 -- words of line j come one after another, from word t on
 unfoldable pub chipWords : Blit → ℕ → ℕ → List ℕ → List ℕ → List ℕ
 chipWords b j t [] old = old

@@ -8,7 +8,7 @@ use native.Mathlib.Numerals.{add-one}
 use native.Mathlib.Omega.{arith}
 use lib.Dec.{eqb, leb}
 use lib.ListN.{length, take}
-use borrow.Author.Tests.{eq-eqb, eqb-true}
+use borrow.Author.Tests.{eqb-true}
 use Rattle.record.specs.Record.{recordAt, recordsFrom}
 use Rattle.record.specs.declared.Record.{Record}
 use Rattle.record.proofs.Choice.{and-left, and-right}
@@ -17,15 +17,14 @@ use Rattle.blit.specs.Blit.{Blit}
 use Rattle.blit.specs.Words.{chipWord, chipWords}
 use Rattle.chip.specs.Register.{listed, fits}
 use Rattle.chip.specs.Start.{writeOf}
-use Rattle.chip.specs.Admit.{isData, starts, refusal, dueAfter, chipAfter, effect}
+use Rattle.chip.specs.Admit.{isData, starts, refusal, dueAfter, effect}
 use Rattle.chip.specs.Play.{run, applied}
 use Rattle.chip.specs.Words.{isWord, wordsAhead, OnlyWords, valuesOf, dueInLine, dueInAll, dueAfterWords, chipAfterWords, wordsTaken, Admitting, AdmittingNoOther, Applying}
 use Rattle.chip.specs.declared.Due.{Due}
 use Rattle.chip.specs.declared.Chip.{Chip}
-use Rattle.chip.specs.declared.Run.{Run}
-use Rattle.chip.proofs.Admits.{Admits, is-true, admits, admits-back, data-after, word-effect}
+use Rattle.chip.proofs.Admits.{is-true, admits, admits-back, data-after, word-effect}
 use Rattle.chip.proofs.Runs.{run-taken, applied-step, admitted}
-use Rattle.chip.proofs.Dues.{dueAt, same-line, line-goes-on, one-less-in-line, line-in-all, more-due, some-due}
+use Rattle.chip.proofs.Dues.{same-line, line-goes-on, one-less-in-line, line-in-all, more-due, some-due}
 
 -- ---- one word
 

@@ -1,6 +1,6 @@
 // The registers once a record is written, and admitting the records of a stream on registers and sizes alone.
 ghost use mathlib.Core.Path.{_≡_};
-ghost use mathlib.Core.Bool.{false, cond};
+ghost use mathlib.Core.Bool.{false};
 ghost use Prim.Native.Nat.{_+_, _-_, _/_, _≤_};
 ghost use lib.ListN.{length};
 ghost use Rattle.record.specs.Record.{recordsFrom, recordsOf};

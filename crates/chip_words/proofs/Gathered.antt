@@ -1,5 +1,5 @@
 -- The words of a stream's records: their bytes gathered into a source line, and the line that they make.
-use Prim.Native.Nat.{ℕ, zero, suc, _+_, _-_, _*_, _/_, _%_, _≤_, _<_, min}
+use Prim.Native.Nat.{ℕ, suc, _+_, _-_, _*_, _/_, _%_, _≤_, _<_, min}
 use mathlib.Core.Path.{_≡_, refl, sym, ap, _∙_}
 use mathlib.Core.List.{List, [], _∷_, _++_}
 use native.Mathlib.Nat.{add-zero, mul-assoc, mul-comm, mul-le-mul-right}
@@ -12,7 +12,6 @@ use Rattle.record.specs.declared.Record.{Record}
 use Rattle.record.proofs.Records.{records-step, records-end, length-from}
 use Rattle.blit.specs.Blit.{Blit, pixels}
 use Rattle.blit.specs.Job.{mixOf}
-use Rattle.blit.specs.declared.Mix.{Mix}
 use Rattle.blit.specs.declared.Mix.the-variants.{Raster}
 use Rattle.blit.specs.Words.{perWord, chipWord, chipWords, wordBytes}
 use Rattle.blit.proofs.LineWords.{per-bytes, length-word-bytes, put-is-words}

@@ -1,9 +1,8 @@
-use Prim.Native.Nat.{_+_, _-_, _≤_}
-use mathlib.Core.Path.{_≡_, sym, ap, _∙_}
+use Prim.Native.Nat.{_-_, _≤_}
+use mathlib.Core.Path.{sym, ap, _∙_}
 use borrow.Author.Needs.{needs}
 use borrow.Author.Tests.{not-true, not-false}
 use native.Mathlib.Omega.{arith}
-use Rattle.record.specs.Record.{recordAt}
 use Rattle.chip.specs.Words.{isWord}
 use Rattle.chip.proofs.Words.{Found, none-found, one-found, all-found, only-words-found}
 use Rattle.chip_admit.proofs.words_ahead.Statement.{statement}

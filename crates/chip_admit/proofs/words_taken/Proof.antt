@@ -1,4 +1,4 @@
-use mathlib.Core.Path.{_≡_, sym, ap, _∙_}
+use mathlib.Core.Path.{sym, ap, _∙_}
 use Prim.Native.Nat.{ℕ, _-_, min}
 use borrow.Author.Tests.{not-true, not-false}
 use Rattle.record.specs.Record.{recordsFrom}

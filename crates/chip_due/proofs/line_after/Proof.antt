@@ -1,6 +1,5 @@
 use mathlib.Core.Path.{sym, ap, _∙_}
 use native.Mathlib.Omega.{arith}
-use Rattle.chip.specs.declared.Chip.{Chip}
 use Rattle.chip.specs.declared.Due.{Due}
 use Rattle.chip.proofs.Dues.{after-line-words, line-words-fit}
 use borrow.Author.Needs.{needs}

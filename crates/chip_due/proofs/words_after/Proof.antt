@@ -1,5 +1,4 @@
 use mathlib.Core.Path.{ap}
-use Rattle.chip.specs.declared.Chip.{Chip}
 use Rattle.chip.specs.declared.Due.{Due}
 use borrow.Author.Needs.{needs}
 use Rattle.chip_due.proofs.words_after.Statement.{statement}

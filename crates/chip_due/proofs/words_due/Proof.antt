@@ -1,9 +1,8 @@
-use mathlib.Core.Path.{_≡_, ap, _∙_}
+use mathlib.Core.Path.{ap, _∙_}
 use native.Mathlib.Nat.{mul-le-mul}
 use native.Mathlib.Omega.{arith}
 use Prim.Native.Nat.{ℕ, _+_, _-_, _*_, _≤_}
-use Rattle.chip.specs.Words.{lineWords, dueInAll}
-use Rattle.chip.specs.Start.{heightOf}
+use Rattle.chip.specs.Words.{dueInAll}
 use borrow.Author.Needs.{needs}
 use Rattle.chip_due.proofs.words_due.Statement.{statement}
 use Rattle.chip_due.proofs.words_due.Tie as tie

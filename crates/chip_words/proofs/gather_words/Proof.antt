@@ -1,7 +1,6 @@
 use Prim.Native.Nat.{_+_, _-_, _*_, _/_, _%_, _≤_}
 use mathlib.Core.Path.{_≡_, refl, _∙_}
 use native.Mathlib.Omega.{arith}
-use borrow.Author.Needs.{needs}
 use lib.ListN.{length, set, length-set}
 use Rattle.chip_words.proofs.Gathered.{Gathering, gather-start, gather-step, gather-end}
 use Rattle.chip_words.proofs.gather_words.Statement.{statement}

@@ -1,5 +1,5 @@
-use Prim.Native.Nat.{ℕ, _-_, _*_, _≤_, min}
-use mathlib.Core.Path.{_≡_, ap, _∙_}
+use Prim.Native.Nat.{_-_, _*_, min}
+use mathlib.Core.Path.{_∙_}
 use native.Mathlib.Nat.{mul-le-mul}
 use native.Mathlib.Omega.{arith}
 use Rattle.blit.specs.Words.{perWord}
