@@ -1,10 +1,10 @@
 -- What an admitted record says of the registers, and its effect on the memory.
 use Prim.Native.Nat.{ℕ}
-use mathlib.Core.Path.{_≡_, refl, sym, ap}
+use mathlib.Core.Path.{_≡_, refl, sym, ap, _∙_}
 use mathlib.Core.Bool.{Bool, true, false, not, _&&_, _||_, cond}
 use mathlib.Core.List.{List, [], _∷_}
 use native.Mathlib.Omega.{arith}
-use lib.Dec.{leb}
+use lib.Dec.{eqb, leb}
 use Rattle.record.specs.Checks.{row, firstOf, Numbered, AllPass}
 use Rattle.record.specs.declared.Record.{Record}
 use Rattle.record.proofs.Checks.{none, none-back}
@@ -122,6 +122,39 @@ pub plain-refusal : (m : ℕ) (c : Chip) (r : Record) → isData r ≡ false →
     → firstOf (row 20 (not (listed (r .number))) ∷ row 21 (not (fits (r .number) (r .value))) ∷ row 22 false ∷ row 23 (c .due .any) ∷ []) ≡ refusal m c r
 unfolding refusal admitRows
 plain-refusal m c r d s = simp (d, s, or-none)
+
+-- a value that lies in a field has a register that is listed
+step : (t a b x : Bool) → cond t a b ≡ true → (b ≡ true → x ≡ true) → (t || x) ≡ true
+step true a b x e f = refl
+step false a b x e f = f e
+
+pub field-listed : (n v : ℕ) → fits n v ≡ true → listed n ≡ true
+unfolding fits listed
+field-listed n v e =
+    step (eqb n 0x40) _ _ _ e (λ e1.
+    step (eqb n 0x44) _ _ _ e1 (λ e2.
+    step (eqb n 0x50) _ _ _ e2 (λ e3.
+    step (eqb n 0x54) _ _ _ e3 (λ e4.
+    step (eqb n 0x58) _ _ _ e4 (λ e5.
+    step (eqb n 0x5C) _ _ _ e5 (λ e6.
+    step (eqb n 0x8000) _ _ _ e6 (λ e7.
+    step (eqb n 0x8008) _ _ _ e7 (λ e8.
+    step (eqb n 0x800C) _ _ _ e8 (λ e9.
+    step (eqb n 0x8010) _ _ _ e9 (λ e10.
+    step (eqb n 0x8014) _ _ _ e10 (λ e11.
+    step (eqb n 0x8018) _ _ _ e11 (λ e12.
+    step (eqb n 0x801C) _ _ _ e12 (λ e13.
+    step (eqb n 0x8020) _ _ _ e13 (λ e14.
+    step (eqb n 0x8024) _ _ _ e14 (λ e15.
+    step (eqb n 0x10000) _ _ _ e15 (λ e16.
+    e16))))))))))))))))
+
+-- such a value, where nothing starts: only the order counts
+pub field-refusal : (m : ℕ) (c : Chip) (r : Record) → isData r ≡ false → starts r ≡ false → fits (r .number) (r .value) ≡ true
+    → firstOf (row 20 false ∷ row 21 false ∷ row 22 false ∷ row 23 (c .due .any) ∷ []) ≡ refusal m c r
+field-refusal m c r d s f =
+    (λ t. firstOf (row 20 (not (sym (field-listed (r .number) (r .value) f) t)) ∷ row 21 (not (sym f t)) ∷ row 22 false ∷ row 23 (c .due .any) ∷ []))
+    ∙ plain-refusal m c r d s
 
 -- a start
 pub start-refusal : (m : ℕ) (c : Chip) (r : Record) → isData r ≡ false → starts r ≡ true

@@ -72,15 +72,11 @@ admitted-word m c r due e =
     let d : isData r ≡ true = data-only (isData r) (rw due at order) in
     λ t. d t && a .field t
 
--- and while none is due, a register write
-register-only : (t : Bool) → cond t true false ≡ false → t ≡ false
-register-only true e = e
-register-only false e = refl
-
-pub admitted-register : (m : ℕ) (c : Chip) (r : Record) → c .due .any ≡ false → refusal m c r ≡ 0 → isData r ≡ false
-admitted-register m c r none e =
+-- and where a data word is admitted, data is due
+pub admitted-data : (m : ℕ) (c : Chip) (r : Record) → isData r ≡ true → refusal m c r ≡ 0 → c .due .any ≡ true
+admitted-data m c r d e =
     let order = admits m c r e .order in
-    register-only (isData r) (rw none at order)
+    is-true (c .due .any) (rw d at order)
 
 -- ---- a run
 
@@ -250,10 +246,7 @@ front-word c r rs e w = more (dueInAll (c .blit) (c .due)) (some-due (c .blit) (
 no-data : (m : ℕ) (c : Chip) (r : Record) (rs : List Record) (t : Bool) → isData r ≡ t → wordsTaken c (r ∷ rs) ≡ 0 → refusal m c r ≡ 0 → isData r ≡ false
 no-data m c r rs false e z a = e
 no-data m c r rs true e z a =
-    let ok = admits m c r a in
-    let order = ok .order in
-    let due : c .due .any ≡ true = is-true (c .due .any) (rw e at order) in
-    absurd (omega (arith, z, front-word c r rs due (λ t. e t && ok .field t)))
+    absurd (omega (arith, z, front-word c r rs (admitted-data m c r e a) (λ t. e t && admits m c r a .field t)))
 
 pub none-taken : (m : ℕ) (c : Chip) (s : List ℕ) (i n : ℕ) → i < n → wordsTaken c (recordsFrom s i (n - i)) ≡ 0 → refusal m c (recordAt s i) ≡ 0 → isData (recordAt s i) ≡ false
 none-taken m c s i n h z a =

@@ -1,6 +1,6 @@
 // The registers once a record is written, and admitting the records of a stream on registers and sizes alone.
 ghost use mathlib.Core.Path.{_≡_};
-ghost use mathlib.Core.Bool.{false};
+ghost use mathlib.Core.Bool.{false, cond};
 ghost use Prim.Native.Nat.{_+_, _-_, _/_, _≤_};
 ghost use lib.ListN.{length};
 ghost use Rattle.record.specs.Record.{recordsFrom, recordsOf};
@@ -18,6 +18,13 @@ use chip::Run;
 use record::Record;
 use screen::Origin;
 use screen::ScreenValues;
+
+// One of two values, by a test.
+fn choose(t: bool, a: u32, b: u32) -> u32
+    ensures { λ r. ⌜ r ≡ cond t a b ⌝ }
+{
+    if t { a } else { b }
+}
 
 // Whether a number is a listed register or 10000h.
 fn is_listed(number: u32) -> bool
@@ -69,20 +76,17 @@ fn screen_after(s: ScreenValues, number: u32, value: u32) -> ScreenValues
 pub fn blit_after(b: Registers, number: u32, value: u32) -> Registers
     ensures { λ r. ⌜ r ≡ blitAfter b number value ⌝ }
 {
-    let mut next = b;
-    match number {
-        0x8000 => next.control = value,
-        0x8008 => next.command = value,
-        0x800C => next.source = value,
-        0x8010 => next.destination = value,
-        0x8014 => next.offset = value,
-        0x8018 => next.width = value,
-        0x801C => next.height = value,
-        0x8020 => next.background = value,
-        0x8024 => next.foreground = value,
-        _ => {}
+    Registers {
+        control: choose(number == 0x8000, value, b.control),
+        command: choose(number == 0x8008, value, b.command),
+        source: choose(number == 0x800C, value, b.source),
+        destination: choose(number == 0x8010, value, b.destination),
+        offset: choose(number == 0x8014, value, b.offset),
+        width: choose(number == 0x8018, value, b.width),
+        height: choose(number == 0x801C, value, b.height),
+        background: choose(number == 0x8020, value, b.background),
+        foreground: choose(number == 0x8024, value, b.foreground),
     }
-    next
 }
 
 // From the first byte of the first pixel to that of the last.
@@ -192,9 +196,14 @@ fn register_refusal(memory: u64, c: Chip, r: Record) -> u32
     ensures { λ x. ⌜ x ≡ refusal memory c r ⌝ }
 {
     let d = c.due;
-    let listed = !is_listed(r.number);
     let value = !in_field(r.number, r.value);
-    if !starts_blit(r) {
+    let plain = !starts_blit(r);
+    // What lies in a field has a register that is listed.
+    if plain & !value {
+        return first_fault(false, false, false, d.any);
+    }
+    let listed = !is_listed(r.number);
+    if plain {
         return first_fault(listed, value, false, d.any);
     }
     let next = blit_after(c.blit, r.number, r.value);

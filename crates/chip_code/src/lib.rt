@@ -12,6 +12,7 @@ use blit::From;
 use blit::Job;
 use blit::Mix;
 use chip::Chip;
+use chip::Due;
 use chip::Played;
 use chip::Registers;
 use record::Record;
@@ -88,8 +89,8 @@ fn apply(c: Chip, r: Record, memory: &mut [u8])
     start(next, memory);
 }
 
-// The second pass: applies the first records of a stream, which are admitted, from a chip on. While data is due they are data
-// words, and those of a line are drawn at once.
+// The second pass: applies the first records of a stream, which are admitted, from a chip on. Where a data word stands, all up to
+// the last that is due are data words, and those of its line are drawn at once.
 pub fn perform_all(start: Chip, stream: &[u8], count: usize, memory: &mut [u8])
     requires { ⌜ (count ≤ length (now stream) / 8) × (run memorySize start 0 (recordsFrom (now stream) 0 count) .number ≡ 0) × (length (now memory) ≡ memorySize) ⌝ }
     ensures { λ _. ⌜ now (memory .exit) ≡ applied start (recordsFrom (now (stream .entry)) 0 count) (now (memory .entry)) ⌝ }
@@ -97,15 +98,20 @@ pub fn perform_all(start: Chip, stream: &[u8], count: usize, memory: &mut [u8])
     let mut chip = start;
     let mut i = 0;
     while i < count {
-        let d = chip.due;
-        if d.any {
+        let r = record_code::record_at(stream, i);
+        if r.number == 0x10000 {
             let b = chip.blit;
+            let due = chip.due;
+            let d = Due {
+                any: true,
+                line: due.line,
+                word: due.word,
+            };
             let n = record_code::least(chip_due::line_due(b, d) as usize, count - i);
             chip_words::write_line(b, d, stream, i, n, memory);
             chip = chip_due::line_after(chip, n as u64);
             i += n;
         } else {
-            let r = record_code::record_at(stream, i);
             apply(chip, r, memory);
             chip = chip_admit::register_after(chip, r);
             i += 1;

@@ -148,19 +148,26 @@ pub fn words_after(c: Chip, n: u64) -> Chip
     Chip { screen, blit, due }
 }
 
-// The chip after so many words of the due word's line: as after the last of them.
+// What is due after so many words of the due word's line: as after the last of them.
+pub fn due_in_line(b: Registers, d: Due, n: u64) -> Due
+    requires { ⌜ (0 < n) × (n ≤ dueInLine b d) ⌝ }
+    ensures { λ r. ⌜ r ≡ dueAfterWords b n d ⌝ }
+{
+    let last = Due {
+        any: true,
+        line: d.line,
+        word: d.word + (n - 1) as u16,
+    };
+    due_after(b, last)
+}
+
+// The chip after so many words of the due word's line.
 pub fn line_after(c: Chip, n: u64) -> Chip
     requires { ⌜ (0 < n) × (n ≤ dueInLine (c .blit) (c .due)) ⌝ }
     ensures { λ r. ⌜ r ≡ chipAfterWords c n ⌝ }
 {
     let screen = c.screen;
     let blit = c.blit;
-    let d = c.due;
-    let last = Due {
-        any: true,
-        line: d.line,
-        word: d.word + (n - 1) as u16,
-    };
-    let due = due_after(blit, last);
+    let due = due_in_line(blit, c.due, n);
     Chip { screen, blit, due }
 }

@@ -1,10 +1,11 @@
 -- Blocks and ends, computed on a memory of eight bytes: what each call gives, two refusals at once, and states that no stream leads to.
 use Prim.Native.Nat.{ℕ}
 use mathlib.Core.Path.{_≡_, refl}
+use mathlib.Core.Bool.{true, false}
 use mathlib.Core.List.{List, [], _∷_, _++_}
 use lib.ListN.{length, take, drop, replicate}
 use Rattle.record.specs.Checks.{firstOf, firstPlace, rowsAt}
-use Rattle.record.specs.Record.{recordWith, recordBytes, streamBytes, recordAt}
+use Rattle.record.specs.Record.{recordWith, recordBytes, streamBytes, recordAt, recordsFrom, recordsOf}
 use Rattle.record.specs.declared.Record.{Record}
 use Rattle.pixel.specs.Pixel.{getPixel, putPixel}
 use Rattle.pixel.specs.Raster.{bitwise}
@@ -16,9 +17,11 @@ use Rattle.chip.specs.Register.{listed, fits, screenAfter, blitAfter}
 use Rattle.chip.specs.Start.{sourceFits, startable, span, within, mixBy, fromBy, jobOf, writeOf, started}
 use Rattle.chip.specs.Admit.{admitRows, refusal, dueAfter, dueOf, chipAfter, effect}
 use Rattle.chip.specs.Play.{newChip, refusedBy}
+use Rattle.chip.specs.Words.{wordsAhead, dueInLine}
 use Rattle.chip.specs.declared.Registers.{Registers}
 use Rattle.serial.specs.State.{chipOf, stateOf, playerOf, newPlayer}
 use Rattle.serial.specs.Serial.{recordTaken, byteTaken, bytesTaken, blockRows, keptBy, fedWith, feeding, endRows, keeping, endedPlayer, endAnswer, answerOf, fedOf}
+use Rattle.serial.specs.Taking.{wordsAlone}
 use Rattle.serial.specs.Cutting.{joined, fedAll, beforeRefused}
 use Rattle.serial.specs.declared.Player.{Player}
 
@@ -230,3 +233,52 @@ pub words : (joined ((1 ∷ 2 ∷ []) ∷ [] ∷ (3 ∷ []) ∷ []) ≡ 1 ∷ 2 
     × (fedOf done (refusedBy 7 8) ≡ record { player = done; answer = record { number = 7; place = 8; values = replicate 6 0 } })
 unfolding firstOf listed fits screenAfter blitAfter admitRows refusal dueAfter dueOf chipAfter newChip joined beforeRefused answerOf fedOf
 words = (refl, refl, refl, refl)
+
+-- ---- words alone
+
+-- a write of two lines of five pixels of one byte, three words to a line: word w of line 0 is due, held bytes are half read
+abbrev writing : ℕ → ℕ → ℕ → Player
+writing due w held =
+    record {
+      values = replicate 6 0;
+      blit = record { control = 1; command = 0xC0000; source = 0; destination = 0; offset = 4; width = 4; height = 1; background = 0; foreground = 0 };
+      due = due;
+      line = 0;
+      word = w;
+      half = replicate 7 0;
+      held = held;
+      count = 5;
+      kept = 0;
+      number = 0;
+      place = 0;
+    }
+
+-- so many words, the last of them v
+abbrev last : ℕ → List ℕ
+last v = streamBytes (recordWith 0x10000 v ∷ [])
+
+abbrev two : ℕ → List ℕ
+two v = streamBytes (recordWith 0x10000 0xFFFF ∷ []) ++ last v
+
+abbrev whole : ℕ → List ℕ
+whole v = streamBytes (recordWith 0x10000 7 ∷ []) ++ two v
+
+-- a block of words of the line, all of it or a part; nothing due; half read; a word past the line, from its start and from its second
+-- word on; a value past its field, in the last word and in the first; a register; seven bytes, nine, none
+pub alone : (wordsAlone (writing 1 0 0) (whole 9) ≡ true)
+    × (wordsAlone (writing 7 1 0) (two 9) ≡ true)
+    × (wordsAlone (writing 1 0 0) (last 9) ≡ true)
+    × (wordsAlone (writing 1 9 0) (last 9) ≡ true)
+    × (wordsAlone (writing 0 0 0) (two 9) ≡ false)
+    × (wordsAlone (writing 1 0 1) (two 9) ≡ false)
+    × (wordsAlone (writing 1 0 200) (two 9) ≡ false)
+    × (wordsAlone (writing 1 0 0) (last 8 ++ whole 9) ≡ false)
+    × (wordsAlone (writing 1 1 0) (whole 9) ≡ false)
+    × (wordsAlone (writing 1 0 0) (two 0x10000) ≡ false)
+    × (wordsAlone (writing 1 0 0) (last 0x10000 ++ last 9) ≡ false)
+    × (wordsAlone (writing 1 0 0) (two 9 ++ streamBytes (recordWith 0x44 5 ∷ [])) ≡ false)
+    × (wordsAlone (writing 1 0 0) (take 7 (last 9)) ≡ false)
+    × (wordsAlone (writing 1 0 0) (last 9 ++ (0 ∷ [])) ≡ false)
+    × (wordsAlone (writing 1 0 0) [] ≡ false)
+unfolding recordBytes streamBytes recordAt recordsFrom recordsOf fits wordsAhead dueInLine chipOf wordsAlone
+alone = (refl, refl, refl, refl, refl, refl, refl, refl, refl, refl, refl, refl, refl, refl, refl)

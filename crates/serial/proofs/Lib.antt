@@ -5,6 +5,7 @@ pub mod Follows
 pub mod Players
 pub mod Rest
 pub mod Ways
+pub mod Alone
 pub mod Blocks
 pub mod Cutting
 pub mod Cases

@@ -40,7 +40,7 @@ module _ (p : Player) where
 -- ---- the player in a state
 
 -- a flag as a number
-flag : (b : Bool) → boolByte b ≡ cond b 1 0
+pub flag : (b : Bool) → boolByte b ≡ cond b 1 0
 flag true = refl
 flag false = refl
 

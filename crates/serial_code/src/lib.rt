@@ -1,14 +1,13 @@
 // A player that is fed a stream in small blocks, and ended.
 ghost use mathlib.Core.Path.{_≡_};
 ghost use mathlib.Core.Bool.{cond};
-ghost use Prim.Native.Nat.{_+_, _≤_, min};
 ghost use lib.Dec.{eqb};
 ghost use lib.ListN.{length};
 ghost use Rattle.record.specs.Record.{recordsOf};
 ghost use Rattle.screen.specs.Screen.{memorySize};
 ghost use Rattle.screen.specs.Narrow.{Narrow};
 ghost use Rattle.chip.specs.Play.{refusedBy};
-ghost use Rattle.serial.specs.State.{mostRecords, stateOf, playerOf};
+ghost use Rattle.serial.specs.State.{stateOf, playerOf};
 ghost use Rattle.serial.specs.Serial.{bytesTaken, keptBy, feeding, keeping, endedPlayer, endAnswer, answerOf, fedOf};
 ghost use Rattle.serial.specs.Taking.{stageOf, recordsTaken};
 use chip::Run;
@@ -19,19 +18,6 @@ use serial::Taking;
 
 // Bytes of display memory of the S1D13A05.
 const MEMORY_SIZE: u64 = 262144;
-
-// The largest record count.
-const MOST_RECORDS: u64 = 18446744073709551615;
-
-// So many records more, as far as the count goes.
-fn more_records(count: u64, more: u64) -> u64
-    ensures { λ r. ⌜ (r ≡ min (count + more) mostRecords) × (count ≤ mostRecords) ⌝ }
-{
-    if more <= MOST_RECORDS - count {
-        return count + more;
-    }
-    MOST_RECORDS
-}
 
 // Records of so many that a run takes: all, or those before the refused one.
 fn taken_by(r: Run, count: usize) -> usize
@@ -55,7 +41,7 @@ fn take_records(start: Taking, bytes: &[u8], memory: &mut [u8]) -> Taking
     let chip = r.chip;
     Taking {
         chip,
-        count: more_records(start.count, taken as u64),
+        count: serial_state::more_records(start.count, taken as u64),
         number: r.number,
     }
 }
@@ -147,6 +133,14 @@ pub fn take_block(p: Player, block: &[u8], memory: &mut [u8]) -> Fed
     if 64 < block.len() {
         let answer = answer_with(32, 0);
         return Fed { player: p, answer };
+    }
+    if serial_words::is_words(p, block) {
+        let next = serial_words::take_words(p, block, memory);
+        let answer = answer_with(next.number, next.place);
+        return Fed {
+            player: next,
+            answer,
+        };
     }
     let player = take_bytes(p, block, memory);
     let answer = answer_with(player.number, player.place);

@@ -1,16 +1,19 @@
 // A player's state in its numbers, and a half-read record with a block behind it.
 ghost use mathlib.Core.Path.{_≡_};
 ghost use mathlib.Core.List.{[], _++_};
-ghost use Prim.Native.Nat.{_+_, _≤_, _<_};
+ghost use Prim.Native.Nat.{_+_, _≤_, _<_, min};
 ghost use lib.ListN.{length, take, replicate};
 ghost use Rattle.record.specs.Bytes.{byteAt, over};
 ghost use Rattle.screen.specs.Narrow.{Narrow};
-ghost use Rattle.serial.specs.State.{heldBy, chipOf, playerOf, newPlayer};
+ghost use Rattle.serial.specs.State.{mostRecords, heldBy, chipOf, playerOf, newPlayer};
 use chip::Chip;
 use chip::Due;
 use chip::Registers;
 use serial::Player;
 use serial::Taking;
+
+// The largest record count.
+const MOST_RECORDS: u64 = 18446744073709551615;
 
 // A player that has read nothing.
 pub fn new_player() -> Player
@@ -62,6 +65,16 @@ pub fn chip_of(p: Player) -> Chip
         word: p.word,
     };
     Chip { screen, blit, due }
+}
+
+// So many records more, as far as the count goes.
+pub fn more_records(count: u64, more: u64) -> u64
+    ensures { λ r. ⌜ (r ≡ min (count + more) mostRecords) × (count ≤ mostRecords) ⌝ }
+{
+    if more <= MOST_RECORDS - count {
+        return count + more;
+    }
+    MOST_RECORDS
 }
 
 // The player in a state whose half-read record is the first bytes of `half`.

@@ -1,7 +1,6 @@
 -- The loop: what is left of the records, applied to the memory so far, is all of them applied; and it is not refused.
 use mathlib.Core.Path.{_≡_, refl, sym, ap, _∙_}
 use mathlib.Core.List.{List}
-use mathlib.Core.Bool.{false}
 use Prim.Native.Nat.{ℕ, _+_, _-_, _≤_, _<_, _^_}
 use native.Mathlib.Nat.{sub-zero}
 use native.Mathlib.Omega.{arith}
@@ -16,8 +15,11 @@ use Rattle.chip.specs.Play.{run, applied}
 use Rattle.chip.specs.Words.{dueInLine}
 use Rattle.chip.specs.declared.Chip.{Chip}
 use Rattle.chip.specs.declared.Run.{Run}
+use Rattle.chip.proofs.Dues.{dueAt}
 use Rattle.chip.proofs.Runs.{applied-end, applied-next, admitted-next}
-use Rattle.chip.proofs.Words.{Taken, admitted-register, admitted-run, run-words, applied-words}
+use Rattle.chip.proofs.Words.{Taken, admitted-data, admitted-run, run-words, applied-words}
+use mathlib.Core.Bool.{true}
+use borrow.Author.Tests.{eq-eqb, ne-eqb}
 use Rattle.chip_code.proofs.perform_all.Statement.{statement}
 use Rattle.chip_code.proofs.perform_all.Tie as tie
 
@@ -36,6 +38,16 @@ loop-holds c =
       refl,
     )
 
+record-at-requires : tie.Need-record-at-requires Inv-loop μ-loop
+record-at-requires c κs = omega (arith, c .before .before .before .before .pre .0)
+
+-- record i is admitted, and so are the others after it
+next : (c : tie.After-record-at Inv-loop μ-loop) → let l = c .before .before .loop in let s = c .before .before .before .before .before .args .stream .now in let n = c .before .before .before .before .before .args .count in
+    (refusal memorySize (l .chip) (recordAt s (l .i)) ≡ 0) × (run memorySize (chipAfter (l .chip) (recordAt s (l .i))) (l .i + 1) (recordsFrom s (l .i + 1) (n - (l .i + 1))) .number ≡ 0)
+next c =
+    let l = c .before .before .loop in
+    admitted-next memorySize (l .chip) (c .before .before .before .before .before .args .stream .now) (l .i) (c .before .before .before .before .before .args .count) (omega arith) (l .inv .2)
+
 line-due-requires : tie.Need-line-due-requires Inv-loop μ-loop
 line-due-requires c κs = search needs
 
@@ -46,38 +58,48 @@ least-requires : tie.Need-least-requires Inv-loop μ-loop
 least-requires c κs = search needs
 
 -- the words of the line that are there
-fits : (c : tie.After-least Inv-loop μ-loop) → c .before .before .before .before .before .before .loop .i + c .least .result ≤ c .before .before .before .before .before .before .before .before .before .args .count
+fits : (c : tie.After-least Inv-loop μ-loop) → c .before .before .before .before .before .before .before .before .loop .i + c .least .result ≤ c .before .before .before .before .before .before .before .before .before .before .before .args .count
 fits c = omega (arith, c .least .ensures)
 
-few : (c : tie.After-least Inv-loop μ-loop) → c .least .result ≤ dueInLine (c .before .before .before .before .before .before .loop .chip .blit) (c .before .before .before .before .before .before .loop .chip .due)
-few c = omega (arith, c .least .ensures, c .before .line-due .ensures .0)
+-- as many as are due of the line, which does not look at whether any is
+few-at : (c : tie.After-least Inv-loop μ-loop) → c .least .result ≤ dueInLine (c .before .before .before .before .before .before .before .before .loop .chip .blit) (dueAt (c .before .before .before .before .before .before .before .before .loop .chip .due .line) (c .before .before .before .before .before .before .before .before .loop .chip .due .word))
+few-at c = omega (arith, c .least .ensures, c .before .line-due .ensures .0)
+
+few : (c : tie.After-least Inv-loop μ-loop) → c .least .result ≤ dueInLine (c .before .before .before .before .before .before .before .before .loop .chip .blit) (c .before .before .before .before .before .before .before .before .loop .chip .due)
+unfolding dueInLine
+few c = few-at c
 
 some : (c : tie.After-least Inv-loop μ-loop) → 0 < c .least .result
 some c = omega (arith, c .least .ensures, c .before .line-due .ensures .1)
 
-due : (c : tie.After-least Inv-loop μ-loop) → Taken (c .before .before .before .before .before .before .loop .chip) (c .before .before .before .before .before .before .before .before .before .args .stream .now) (c .before .before .before .before .before .before .loop .i) (c .before .before .before .before .before .before .before .before .before .args .count) (c .least .result)
+any : (c : tie.After-least Inv-loop μ-loop) → c .before .before .before .before .before .before .before .before .loop .chip .due .any ≡ true
+any c =
+    let l = c .before .before .before .before .before .before .before .before .loop in
+    admitted-data memorySize (l .chip) (recordAt (c .before .before .before .before .before .before .before .before .before .before .before .args .stream .now) (l .i)) (ap isData (sym (c .before .before .before .before .before .before .record-at .ensures)) ∙ eq-eqb _ _ (c .before .before .before .before .if1 .taken)) (next (c .before .before .before .before .before .before) .0)
+
+due : (c : tie.After-least Inv-loop μ-loop) → Taken (c .before .before .before .before .before .before .before .before .loop .chip) (c .before .before .before .before .before .before .before .before .before .before .before .args .stream .now) (c .before .before .before .before .before .before .before .before .loop .i) (c .before .before .before .before .before .before .before .before .before .before .before .args .count) (c .least .result)
 due c =
-    let l = c .before .before .before .before .before .before .loop in
-    admitted-run memorySize (l .chip) (c .before .before .before .before .before .before .before .before .before .args .stream .now) (l .i) (c .before .before .before .before .before .before .before .before .before .args .count) (c .least .result) (c .before .before .before .if1 .taken) (fits c) (few c) (l .inv .2)
+    let l = c .before .before .before .before .before .before .before .before .loop in
+    admitted-run memorySize (l .chip) (c .before .before .before .before .before .before .before .before .before .before .before .args .stream .now) (l .i) (c .before .before .before .before .before .before .before .before .before .before .before .args .count) (c .least .result) (any c) (fits c) (few c) (l .inv .2)
 
 write-line-requires : tie.Need-write-line-requires Inv-loop μ-loop
-write-line-requires c κs = (omega (arith, fits (c .before), c .before .before .before .before .before .before .before .before .before .before .pre .0), few (c .before))
+write-line-requires c κs = (omega (arith, fits (c .before), c .before .before .before .before .before .before .before .before .before .before .before .before .pre .0), few-at (c .before))
 
 line-after-requires : tie.Need-line-after-requires Inv-loop μ-loop
 line-after-requires c κs = (some (c .before .before .before .before), few (c .before .before .before .before))
 
 add-i : tie.Need-add-i Inv-loop μ-loop
-add-i c = omega (arith, fits (c .before .before .before .before .before), c .before .before .before .before .before .before .before .before .before .before .before .before .before .before .fits .count)
+add-i c = omega (arith, fits (c .before .before .before .before .before), c .before .before .before .before .before .before .before .before .before .before .before .before .before .before .before .before .fits .count)
 
 loop-less : tie.Need-loop-less Inv-loop μ-loop
 loop-less c = omega (arith, fits (c .before .before .before .before .before), some (c .before .before .before .before .before))
 
 loop-again : tie.Need-loop-again Inv-loop μ-loop
 loop-again c =
-    let a = c .before .before .before .before .before .before .before .before .before .before .before .before .before .before .args in
+    let a = c .before .before .before .before .before .before .before .before .before .before .before .before .before .before .before .before .args in
     let s = a .stream .now in
     let n = a .count in
-    let l = c .before .before .before .before .before .before .before .before .before .before .before .loop in
+    let l = c .before .before .before .before .before .before .before .before .before .before .before .before .before .loop in
     let k = c .before .before .before .before .before .least .result in
     let w = due (c .before .before .before .before .before) in (
       omega (arith, fits (c .before .before .before .before .before)),
@@ -88,32 +110,17 @@ loop-again c =
       c .before .before .before .write-line .kept .1 .1 .1 .1 .1 .0 ∙ l .inv .3,
     )
 
-record-at-requires : tie.Need-record-at-requires Inv-loop μ-loop
-record-at-requires c κs = omega (arith, c .before .before .before .before .before .before .pre .0)
-
--- record i is admitted, and so are the others after it
-next : (c : tie.Else1 Inv-loop μ-loop) → let l = c .before .before .before .loop in let s = c .before .before .before .before .before .before .args .stream .now in let n = c .before .before .before .before .before .before .args .count in
-    (refusal memorySize (l .chip) (recordAt s (l .i)) ≡ 0) × (run memorySize (chipAfter (l .chip) (recordAt s (l .i))) (l .i + 1) (recordsFrom s (l .i + 1) (n - (l .i + 1))) .number ≡ 0)
-next c =
-    let l = c .before .before .before .loop in
-    admitted-next memorySize (l .chip) (c .before .before .before .before .before .before .args .stream .now) (l .i) (c .before .before .before .before .before .before .args .count) (omega arith) (l .inv .2)
-
-register : (c : tie.After-record-at Inv-loop μ-loop) → isData (c .record-at .result) ≡ false
-register c =
-    let l = c .before .before .before .before .loop in
-    ap isData (c .record-at .ensures) ∙ admitted-register memorySize (l .chip) (recordAt (c .before .before .before .before .before .before .before .args .stream .now) (l .i)) (c .before .if1 .left) (next (c .before) .0)
-
 -- the count fits
 room : (c : tie.In-loop Inv-loop μ-loop) → c .before .loop .i + 1 < 2 ^ 64
 room c = omega arith
 
 apply-requires : tie.Need-apply-requires Inv-loop μ-loop
 apply-requires c κs =
-    let e = next (c .before .before) in
-    (ap (refusal memorySize (c .before .before .before .before .before .loop .chip)) (c .before .record-at .ensures) ∙ e .0, register (c .before), c .before .before .before .before .before .loop .inv .3 ∙ c .before .before .before .before .before .before .before .before .pre .2)
+    let e = next (c .before .before .before) in
+    (ap (refusal memorySize (c .before .before .before .before .before .loop .chip)) (c .before .before .before .record-at .ensures) ∙ e .0, ne-eqb _ _ (c .before .if1 .left), c .before .before .before .before .before .loop .inv .3 ∙ c .before .before .before .before .before .before .before .before .pre .2)
 
 register-after-requires : tie.Need-register-after-requires Inv-loop μ-loop
-register-after-requires c κs = register (c .before .before .before .before)
+register-after-requires c κs = ne-eqb _ _ (c .before .before .before .before .if1 .left)
 
 add-i-2 : tie.Need-add-i-2 Inv-loop μ-loop
 add-i-2 c = omega (arith, room (c .before .before .before .before .before .before .before .before))
@@ -127,9 +134,9 @@ loop-again-2 c =
     let s = a .stream .now in
     let n = a .count in
     let l = c .before .before .before .before .before .before .before .before .before .loop in
-    let e = next (c .before .before .before .before .before .before) in
-    let after = c .register-after .ensures ∙ ap (chipAfter (l .chip)) (c .before .before .before .before .before .record-at .ensures) in
-    let done = c .before .before .before .apply .ensures ∙ ap (λ (x : Record). effect (l .chip) x (l .memory)) (c .before .before .before .before .before .record-at .ensures) in (
+    let e = next (c .before .before .before .before .before .before .before) in
+    let after = c .register-after .ensures ∙ ap (chipAfter (l .chip)) (c .before .before .before .before .before .before .before .record-at .ensures) in
+    let done = c .before .before .before .apply .ensures ∙ ap (λ (x : Record). effect (l .chip) x (l .memory)) (c .before .before .before .before .before .before .before .record-at .ensures) in (
       omega arith,
       l .inv .1 ∙ applied-next (l .chip) s (l .i) n (l .memory) (omega arith)
           ∙ (λ t. applied (sym after t) (recordsFrom s (l .i + 1) (n - (l .i + 1))) (sym done t)),
@@ -157,6 +164,7 @@ perform-all-spec =
     Inv-loop
     μ-loop
     loop-holds
+    record-at-requires
     line-due-requires
     sub-least
     least-requires
@@ -165,7 +173,6 @@ perform-all-spec =
     add-i
     loop-less
     loop-again
-    record-at-requires
     apply-requires
     register-after-requires
     add-i-2
