@@ -7,6 +7,7 @@ ghost use Rattle.record.specs.Record.{recordsFrom};
 ghost use Rattle.pixel.specs.Pixel.{getPixel, putPixel};
 ghost use Rattle.blit.specs.Blit.{pixels};
 ghost use Rattle.blit.specs.Job.{mixOf};
+ghost use Rattle.blit.specs.declared.Mix.the-variants.{Raster};
 ghost use Rattle.blit.specs.Words.{perWord, wordPixel, chipWord, chipWords, wordBytes};
 ghost use Rattle.chip.specs.Start.{bytesOf, lineOf, widthOf, destinationOf, writeOf};
 ghost use Rattle.chip.specs.Words.{valuesOf, dueInLine};
@@ -149,8 +150,29 @@ fn gather_words(stream: &[u8], i: usize, n: usize, line: &mut [u8])
     }
 }
 
-// The words of so many records, from the due one on, as one line. Where the memory ends before it, which no stream from a new
-// chip leads to, they are drawn one by one.
+// The pixels of the words of so many records, drawn from an address on as one line; source is room for their bytes.
+fn draw_words(
+    bytes: usize,
+    code: u8,
+    at: usize,
+    count: usize,
+    stream: &[u8],
+    i: usize,
+    n: usize,
+    source: &mut [u8],
+    memory: &mut [u8],
+)
+    requires { ⌜ (0 < bytes) × (bytes ≤ 2) × (count ≤ 1024) × (count * bytes ≤ 2 * n) × (at + count * bytes ≤ length (now memory)) ⌝ }
+    requires { ⌜ (i + n ≤ length (now stream) / 8) × (2 * n ≤ length (now source)) ⌝ }
+    ensures { λ _. ⌜ now (memory .exit) ≡ pixels bytes (mixOf (Raster code) bytes) (λ k. at + k * bytes) (λ x k. getPixel bytes (sets (now (source .entry)) 0 (wordBytes (valuesOf (recordsFrom (now (stream .entry)) i n)))) (k * bytes)) count (now (memory .entry)) ⌝ }
+    ensures { λ _. ⌜ now (source .exit) ≡ sets (now (source .entry)) 0 (wordBytes (valuesOf (recordsFrom (now (stream .entry)) i n))) ⌝ }
+{
+    gather_words(stream, i, n, source);
+    blit_code::put_line(bytes, Mix::Raster(code), at, count, source, memory);
+}
+
+// The words of so many records, from the due one on, as one line, with room for those of a block, of a short line, or of any line: the
+// smaller is the sooner made. Where the memory ends before the line, which no stream from a new chip leads to, they are drawn one by one.
 pub fn write_line(b: Registers, d: Due, stream: &[u8], i: usize, n: usize, memory: &mut [u8])
     requires { ⌜ (i + n ≤ length (now stream) / 8) × (n ≤ dueInLine b d) ⌝ }
     ensures { λ _. ⌜ now (memory .exit) ≡ chipWords (writeOf b (λ x y. 0)) (d .line) (d .word) (valuesOf (recordsFrom (now (stream .entry)) i n)) (now (memory .entry)) ⌝ }
@@ -163,14 +185,14 @@ pub fn write_line(b: Registers, d: Due, stream: &[u8], i: usize, n: usize, memor
         write_words(b, d, stream, i, n, memory);
         return;
     }
-    // Room for the words of a block, or for those of any line.
     if n <= 8 {
         let mut source = [0u8; 16];
-        gather_words(stream, i, n, &mut source);
-        blit_code::put_line(bytes, Mix::Raster(code), at, count, &source, memory);
+        draw_words(bytes, code, at, count, stream, i, n, &mut source, memory);
+    } else if n <= 64 {
+        let mut source = [0u8; 128];
+        draw_words(bytes, code, at, count, stream, i, n, &mut source, memory);
     } else {
         let mut source = [0u8; 2048];
-        gather_words(stream, i, n, &mut source);
-        blit_code::put_line(bytes, Mix::Raster(code), at, count, &source, memory);
+        draw_words(bytes, code, at, count, stream, i, n, &mut source, memory);
     }
 }

@@ -1,4 +1,4 @@
-use mathlib.Core.Path.{sym, _∙_, subst}
+use mathlib.Core.Path.{refl, sym, _∙_, subst}
 use Prim.Native.Nat.{ℕ, _*_, _≤_}
 use native.Mathlib.Omega.{arith}
 use Rattle.chip.proofs.Dues.{few-in-line}
@@ -41,49 +41,53 @@ same-length c = search needs
 returns : tie.Need-returns
 returns c = search needs
 
-slice-aggregate-gather-words : tie.Need-slice-aggregate-gather-words
-slice-aggregate-gather-words c = search needs
+slice-aggregate-draw-words : tie.Need-slice-aggregate-draw-words
+slice-aggregate-draw-words c = search needs
 
-gather-words-requires : tie.Need-gather-words-requires
-gather-words-requires c κs = search needs
+draw-words-requires : tie.Need-draw-words-requires
+draw-words-requires c κs = ((omega (arith, c .before .before .before .before .before .before .before .bytes-of .ensures), omega (arith, c .before .before .before .before .before .before .before .bytes-of .ensures), omega (arith, c .before .before .before .before .pixels-of .ensures .1), few-bytes (c .before .before .before .before), omega (arith, c .before .before .before .if1 .left)), (c .before .before .before .before .before .before .before .before .before .before .pre .0, omega (arith, c .before .before .if2 .taken)))
 
-slice-aggregate-put-line : tie.Need-slice-aggregate-put-line
-slice-aggregate-put-line c = search needs
+slice-aggregate-draw-words-2 : tie.Need-slice-aggregate-draw-words-2
+slice-aggregate-draw-words-2 c = search needs
 
-put-line-requires : tie.Need-put-line-requires
-put-line-requires c κs = (omega (arith, c .before .before .before .before .before .before .before .before .before .before .bytes-of .ensures), omega (arith, c .before .before .before .before .before .before .before .before .before .before .bytes-of .ensures), omega (arith, c .before .before .before .before .before .before .before .pixels-of .ensures .1), omega (arith, few-bytes (c .before .before .before .before .before .before .before), c .before .before .before .before .before .if2 .taken, c .before .before .before .gather-words .kept .1 .1 .1 .0), omega (arith, c .before .before .before .before .before .before .if1 .left))
+draw-words-requires-2 : tie.Need-draw-words-requires-2
+draw-words-requires-2 c κs = ((omega (arith, c .before .before .before .before .before .before .before .before .bytes-of .ensures), omega (arith, c .before .before .before .before .before .before .before .before .bytes-of .ensures), omega (arith, c .before .before .before .before .before .pixels-of .ensures .1), few-bytes (c .before .before .before .before .before), omega (arith, c .before .before .before .before .if1 .left)), (c .before .before .before .before .before .before .before .before .before .before .before .pre .0, omega (arith, c .before .before .if3 .taken)))
 
-slice-aggregate-gather-words-2 : tie.Need-slice-aggregate-gather-words-2
-slice-aggregate-gather-words-2 c = search needs
+slice-aggregate-draw-words-3 : tie.Need-slice-aggregate-draw-words-3
+slice-aggregate-draw-words-3 c = search needs
 
-gather-words-requires-2 : tie.Need-gather-words-requires-2
-gather-words-requires-2 c κs = (c .before .before .before .before .before .before .before .before .before .pre .0, omega (arith, c .before .before .before .before .before .before .before .before .before .pre .1, few-in-line (c .before .before .before .before .before .before .before .before .before .args .b) (c .before .before .before .before .before .before .before .before .before .args .d)))
-
-slice-aggregate-put-line-2 : tie.Need-slice-aggregate-put-line-2
-slice-aggregate-put-line-2 c = search needs
-
-put-line-requires-2 : tie.Need-put-line-requires-2
-put-line-requires-2 c κs = (omega (arith, c .before .before .before .before .before .before .before .before .before .before .bytes-of .ensures), omega (arith, c .before .before .before .before .before .before .before .before .before .before .bytes-of .ensures), omega (arith, c .before .before .before .before .before .before .before .pixels-of .ensures .1), omega (arith, few-bytes (c .before .before .before .before .before .before .before), c .before .before .before .before .before .before .before .before .before .before .before .before .before .pre .1, few-in-line (c .before .before .before .before .before .before .before .before .before .before .before .before .before .args .b) (c .before .before .before .before .before .before .before .before .before .before .before .before .before .args .d), c .before .before .before .gather-words2 .kept .1 .1 .1 .0), omega (arith, c .before .before .before .before .before .before .if1 .left))
+draw-words-requires-3 : tie.Need-draw-words-requires-3
+draw-words-requires-3 c κs = ((omega (arith, c .before .before .before .before .before .before .before .before .bytes-of .ensures), omega (arith, c .before .before .before .before .before .before .before .before .bytes-of .ensures), omega (arith, c .before .before .before .before .before .pixels-of .ensures .1), few-bytes (c .before .before .before .before .before), omega (arith, c .before .before .before .before .if1 .left)), (c .before .before .before .before .before .before .before .before .before .before .before .pre .0, omega (arith, c .before .before .before .before .before .before .before .before .before .before .before .pre .1, few-in-line (c .before .before .before .before .before .before .before .before .before .before .before .args .b) (c .before .before .before .before .before .before .before .before .before .before .before .args .d))))
 
 same-length-2 : tie.Need-same-length-2
 same-length-2 c = search needs
 
 returns-2 : tie.Need-returns-2
 returns-2 c =
-    let a = c .before .before .before .before .before .before .before .before .before .before .before .before .before .before .before .before .args in
-    c .before .before .put-line .ensures
-    ∙ line-written (a .b) (a .d .line) (a .d .word) (a .n) (c .before .before .before .before .before .before .before .before .before .before .before .place-of .result) (c .before .before .before .before .before .before .before .before .before .before .pixels-of .result) (c .before .before .before .before .before .before .before .before .before .before .before .before .before .bytes-of .result) (c .before .before .before .before .before .before .before .before .before .before .before .before .raster-code .result) (a .stream .now) (a .i) _ _ (a .memory .now)
-    (c .before .before .before .before .before .before .before .before .before .before .before .before .before .bytes-of .ensures) (c .before .before .before .before .before .before .before .before .before .before .before .before .raster-code .ensures) (c .before .before .before .before .before .before .before .before .before .before .before .place-of .ensures .0) (c .before .before .before .before .before .before .before .before .before .before .pixels-of .ensures .0) (omega (arith, c .before .before .before .before .before .before .before .before .if2 .taken)) (c .before .before .before .before .before .before .gather-words .ensures)
+    let a = c .before .before .before .before .before .before .before .before .before .before .before .before .before .before .args in
+    c .before .before .before .draw-words .ensures .0
+    ∙ line-written (a .b) (a .d .line) (a .d .word) (a .n) (c .before .before .before .before .before .before .before .before .before .place-of .result) (c .before .before .before .before .before .before .before .before .pixels-of .result) (c .before .before .before .before .before .before .before .before .before .before .before .bytes-of .result) (c .before .before .before .before .before .before .before .before .before .before .raster-code .result) (a .stream .now) (a .i) _ _ (a .memory .now)
+    (c .before .before .before .before .before .before .before .before .before .before .before .bytes-of .ensures) (c .before .before .before .before .before .before .before .before .before .before .raster-code .ensures) (c .before .before .before .before .before .before .before .before .before .place-of .ensures .0) (c .before .before .before .before .before .before .before .before .pixels-of .ensures .0) (omega (arith, c .before .before .before .before .before .before .if2 .taken)) refl
 
 same-length-3 : tie.Need-same-length-3
 same-length-3 c = search needs
 
 returns-3 : tie.Need-returns-3
 returns-3 c =
-    let a = c .before .before .before .before .before .before .before .before .before .before .before .before .before .before .before .before .args in
-    c .before .before .put-line2 .ensures
-    ∙ line-written (a .b) (a .d .line) (a .d .word) (a .n) (c .before .before .before .before .before .before .before .before .before .before .before .place-of .result) (c .before .before .before .before .before .before .before .before .before .before .pixels-of .result) (c .before .before .before .before .before .before .before .before .before .before .before .before .before .bytes-of .result) (c .before .before .before .before .before .before .before .before .before .before .before .before .raster-code .result) (a .stream .now) (a .i) _ _ (a .memory .now)
-    (c .before .before .before .before .before .before .before .before .before .before .before .before .before .bytes-of .ensures) (c .before .before .before .before .before .before .before .before .before .before .before .before .raster-code .ensures) (c .before .before .before .before .before .before .before .before .before .before .before .place-of .ensures .0) (c .before .before .before .before .before .before .before .before .before .before .pixels-of .ensures .0) (omega (arith, c .before .before .before .before .before .before .before .before .before .before .before .before .before .before .before .before .pre .1, few-in-line (a .b) (a .d))) (c .before .before .before .before .before .before .gather-words2 .ensures)
+    let a = c .before .before .before .before .before .before .before .before .before .before .before .before .before .before .before .args in
+    c .before .before .before .draw-words2 .ensures .0
+    ∙ line-written (a .b) (a .d .line) (a .d .word) (a .n) (c .before .before .before .before .before .before .before .before .before .before .place-of .result) (c .before .before .before .before .before .before .before .before .before .pixels-of .result) (c .before .before .before .before .before .before .before .before .before .before .before .before .bytes-of .result) (c .before .before .before .before .before .before .before .before .before .before .before .raster-code .result) (a .stream .now) (a .i) _ _ (a .memory .now)
+    (c .before .before .before .before .before .before .before .before .before .before .before .before .bytes-of .ensures) (c .before .before .before .before .before .before .before .before .before .before .before .raster-code .ensures) (c .before .before .before .before .before .before .before .before .before .before .place-of .ensures .0) (c .before .before .before .before .before .before .before .before .before .pixels-of .ensures .0) (omega (arith, c .before .before .before .before .before .before .if3 .taken)) refl
+
+same-length-4 : tie.Need-same-length-4
+same-length-4 c = search needs
+
+returns-4 : tie.Need-returns-4
+returns-4 c =
+    let a = c .before .before .before .before .before .before .before .before .before .before .before .before .before .before .before .args in
+    c .before .before .before .draw-words3 .ensures .0
+    ∙ line-written (a .b) (a .d .line) (a .d .word) (a .n) (c .before .before .before .before .before .before .before .before .before .before .place-of .result) (c .before .before .before .before .before .before .before .before .before .pixels-of .result) (c .before .before .before .before .before .before .before .before .before .before .before .before .bytes-of .result) (c .before .before .before .before .before .before .before .before .before .before .before .raster-code .result) (a .stream .now) (a .i) _ _ (a .memory .now)
+    (c .before .before .before .before .before .before .before .before .before .before .before .before .bytes-of .ensures) (c .before .before .before .before .before .before .before .before .before .before .before .raster-code .ensures) (c .before .before .before .before .before .before .before .before .before .before .place-of .ensures .0) (c .before .before .before .before .before .before .before .before .before .pixels-of .ensures .0) (omega (arith, c .before .before .before .before .before .before .before .before .before .before .before .before .before .before .before .pre .1, few-in-line (a .b) (a .d))) refl
 
 pub write-line-spec : {M : Type 1} → statement M
 write-line-spec =
@@ -98,15 +102,15 @@ write-line-spec =
     write-words-requires
     same-length
     returns
-    slice-aggregate-gather-words
-    gather-words-requires
-    slice-aggregate-put-line
-    put-line-requires
-    slice-aggregate-gather-words-2
-    gather-words-requires-2
-    slice-aggregate-put-line-2
-    put-line-requires-2
+    slice-aggregate-draw-words
+    draw-words-requires
+    slice-aggregate-draw-words-2
+    draw-words-requires-2
+    slice-aggregate-draw-words-3
+    draw-words-requires-3
     same-length-2
     returns-2
     same-length-3
-    returns-3)
+    returns-3
+    same-length-4
+    returns-4)
