@@ -23,7 +23,8 @@ screen depth width height =
       width = width;
       height = height;
       base = 0;
-      window = record { base = 1024; x = 0; y = 0; width = 8; height = 4 };
+      line = 0;
+      window = record { base = 1024; x = 0; y = 0; width = 8; height = 4; line = 0 };
     }
 
 abbrev command : ℕ → ℕ → ℕ → ℕ → ℕ → ℕ → ℕ → ℕ → ℕ → ℕ → Command
@@ -133,7 +134,7 @@ form = refl
 -- at depth 16 a colour may have 16 bits; with flag 0 there is no window
 abbrev flagless : Screen
 flagless =
-    record { depth = 16; rotation = 0; flag = 0; width = 8; height = 4; base = 0; window = record { base = 0; x = 0; y = 0; width = 0; height = 0 } }
+    record { depth = 16; rotation = 0; flag = 0; width = 8; height = 4; base = 0; line = 0; window = record { base = 0; x = 0; y = 0; width = 0; height = 0; line = 0 } }
 
 pub screens : (refusal flagless 0 (set fill 17 255) ≡ 0) × (refusal flagless 0 (set fill 1 1) ≡ 12)
 unfolding allZero firstOf viewWidth viewHeight mainImage windowImage surfaceOf commandOf mustBeZero formed insideImage placed lineWords wordsTaken commandRows refusal

@@ -2,32 +2,51 @@
 use Prim.Native.Nat.{ℕ, _<_, _≤_}
 use mathlib.Core.Path.{_≡_, refl}
 use mathlib.Core.List.{List, [], _∷_}
-use mathlib.Core.Bool.{Bool, true, false, _&&_, cond}
+use mathlib.Core.Bool.{Bool, true, false, _&&_, _||_, cond}
+use mathlib.Core.Logic.{_⊎_, inl, inr}
 use native.Mathlib.Omega.{arith}
 use lib.Dec.{leb}
 use borrow.Author.Tests.{leb-true}
 use Rattle.record.specs.Checks.{Row, firstOf}
-use Rattle.record.proofs.Choice.{and-left, and-right}
+use Rattle.record.proofs.Choice.{and-left, and-right, or-elim}
 use Rattle.screen.specs.declared.Screen.{Screen}
 use Rattle.command.specs.Command.{commandOf, commandRows, refusal}
 
--- every row's number is from lo to hi
-unfoldable pub between : ℕ → ℕ → List Row → Bool
-between lo hi [] = true
-between lo hi (r ∷ rs) = leb lo (r .number) && (leb (r .number) hi && between lo hi rs)
+-- every row's number passes a test
+unfoldable pub allOf : (ℕ → Bool) → List Row → Bool
+allOf test [] = true
+allOf test (r ∷ rs) = test (r .number) && allOf test rs
 
-chosen : (lo hi n x : ℕ) (t : Bool) → lo ≤ n → n ≤ hi → (0 < x → (lo ≤ x) × (x ≤ hi)) → 0 < cond t n x → (lo ≤ cond t n x) × (cond t n x ≤ hi)
-chosen lo hi n x true p q f h = (p, q)
-chosen lo hi n x false p q f h = f h
+chosen : (test : ℕ → Bool) (n x : ℕ) (t : Bool) → test n ≡ true → (0 < x → test x ≡ true) → 0 < cond t n x → test (cond t n x) ≡ true
+chosen test n x true p f h = p
+chosen test n x false p f h = f h
 
-pub first-between : (lo hi : ℕ) (rows : List Row) → between lo hi rows ≡ true → 0 < firstOf rows → (lo ≤ firstOf rows) × (firstOf rows ≤ hi)
-unfolding between firstOf
-first-between lo hi [] e h = absurd (omega arith)
-first-between lo hi (r ∷ rs) e h =
-    let q = and-right (leb lo (r .number)) (leb (r .number) hi && between lo hi rs) e in
-    chosen lo hi (r .number) (firstOf rs) (r .fails) (leb-true lo (r .number) (and-left _ _ e)) (leb-true (r .number) hi (and-left _ _ q)) (first-between lo hi rs (and-right (leb (r .number) hi) (between lo hi rs) q)) h
+pub first-passes : (test : ℕ → Bool) (rows : List Row) → allOf test rows ≡ true → 0 < firstOf rows → test (firstOf rows) ≡ true
+unfolding allOf firstOf
+first-passes test [] e h = absurd (omega arith)
+first-passes test (r ∷ rs) e h =
+    chosen test (r .number) (firstOf rs) (r .fails) (and-left (test (r .number)) _ e) (first-passes test rs (and-right (test (r .number)) _ e)) h
+
+-- the numbers from lo to hi
+abbrev pub between : ℕ → ℕ → ℕ → Bool
+between lo hi n = leb lo n && leb n hi
+
+pub first-between : (lo hi : ℕ) (rows : List Row) → allOf (between lo hi) rows ≡ true → 0 < firstOf rows → (lo ≤ firstOf rows) × (firstOf rows ≤ hi)
+first-between lo hi rows e h =
+    let p = first-passes (between lo hi) rows e h in
+    (leb-true lo (firstOf rows) (and-left (leb lo (firstOf rows)) _ p), leb-true (firstOf rows) hi (and-right (leb lo (firstOf rows)) _ p))
+
+-- the numbers of no command: up to 11, and from 16 on
+abbrev pub ofNoCommand : ℕ → Bool
+ofNoCommand n = leb n 11 || leb 16 n
+
+pub first-of-no-command : (rows : List Row) → allOf ofNoCommand rows ≡ true → 0 < firstOf rows → (firstOf rows ≤ 11) ⊎ (16 ≤ firstOf rows)
+first-of-no-command rows e h =
+    or-elim (leb (firstOf rows) 11) (leb 16 (firstOf rows)) (first-passes ofNoCommand rows e h)
+    (λ p. inl (leb-true (firstOf rows) 11 p))
+    (λ p. inr (leb-true 16 (firstOf rows) p))
 
 -- a command is refused by 12 to 15
 pub refusal-number : (s : Screen) (left : ℕ) (b : List ℕ) → 0 < refusal s left b → (12 ≤ refusal s left b) × (refusal s left b ≤ 15)
-unfolding refusal commandRows between
+unfolding refusal commandRows allOf
 refusal-number s left b h = first-between 12 15 (commandRows s left b (commandOf b)) refl h

@@ -15,7 +15,7 @@ use Rattle.screen.specs.Screen.{fieldRows, screenRows}
 use Rattle.screen.specs.declared.Screen.{Screen}
 use Rattle.screen.proofs.Read.{screen-numbered, accepts, read-accepted}
 use Rattle.command.specs.Task.{Task, screenIn, commandsIn, listRows, firstRefusal, allWords, wordRows, taskRefusal}
-use Rattle.command.proofs.Numbers.{between, first-between}
+use Rattle.command.proofs.Numbers.{allOf, first-between, first-of-no-command}
 use Rattle.command.proofs.Commands.{AllFine, all-fine, words-suffice, RefusesOne, refusal-place}
 
 -- ---- rows 10, 11 and 16
@@ -131,7 +131,7 @@ accepted-says m t e =
 abbrev pub Placed : ℕ → Refusal → Type 0
 Placed count r = RefusesOne count r ⊎ (((r .number ≤ 11) ⊎ (16 ≤ r .number)) × (r .place ≡ 0))
 
-placed-by : (count f e : ℕ) (d : Refusal) → (0 < f → f ≤ 11) → (0 < d .number → RefusesOne count d) → (0 < e → 16 ≤ e) → Placed count (firstIn f d e)
+placed-by : (count f e : ℕ) (d : Refusal) → (0 < f → (f ≤ 11) ⊎ (16 ≤ f)) → (0 < d .number → RefusesOne count d) → (0 < e → 16 ≤ e) → Placed count (firstIn f d e)
 placed-by count f e d hf hd he = chosen (eqb f 0) (eqb (d .number) 0) (eqb e 0) refl refl refl
   where
     above : (n : ℕ) → (n ≡ 0 → ⊥) → 0 < n
@@ -141,15 +141,15 @@ placed-by count f e d hf hd he = chosen (eqb f 0) (eqb (d .number) 0) (eqb e 0) 
     chosen true true true p q r = inr (inl (omega (arith, eqb-true e 0 r)), refl)
     chosen true true false p q r = inr (inr (he (above e (eqb-false e 0 r))), refl)
     chosen true false v p q r = inl (hd (above (d .number) (eqb-false (d .number) 0 q)))
-    chosen false u v p q r = inr (inl (hf (above f (eqb-false f 0 p))), refl)
+    chosen false u v p q r = inr (hf (above f (eqb-false f 0 p)), refl)
 
 module _ (m : ℕ) (t : Task) where
-  first-number : 0 < firstOf (screenRows m (t .screen) ++ listRows (t .size) (screenIn t) (t .list)) → firstOf (screenRows m (t .screen) ++ listRows (t .size) (screenIn t) (t .list)) ≤ 11
-  unfolding screenRows fieldRows listRows between
-  first-number h = first-between 1 11 (screenRows m (t .screen) ++ listRows (t .size) (screenIn t) (t .list)) refl h .1
+  first-number : 0 < firstOf (screenRows m (t .screen) ++ listRows (t .size) (screenIn t) (t .list)) → (firstOf (screenRows m (t .screen) ++ listRows (t .size) (screenIn t) (t .list)) ≤ 11) ⊎ (16 ≤ firstOf (screenRows m (t .screen) ++ listRows (t .size) (screenIn t) (t .list)))
+  unfolding screenRows fieldRows listRows allOf
+  first-number h = first-of-no-command (screenRows m (t .screen) ++ listRows (t .size) (screenIn t) (t .list)) refl h
 
   last-number : 0 < firstOf (wordRows t) → 16 ≤ firstOf (wordRows t)
-  unfolding wordRows between
+  unfolding wordRows allOf
   last-number h = first-between 16 16 (wordRows t) refl h .0
 
   in-list : 0 < firstRefusal (screenIn t) 0 (length (t .words)) (commandsIn t) .number → RefusesOne (length (t .list) / t .size) (firstRefusal (screenIn t) 0 (length (t .words)) (commandsIn t))

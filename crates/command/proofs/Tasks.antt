@@ -9,7 +9,7 @@ use Rattle.record.specs.Lists.{partsFrom, partsOf}
 use Rattle.record.specs.Checks.{firstOf, Refusal}
 use Rattle.pixel.specs.Depth.{isDepth}
 use Rattle.screen.specs.Image.{imageEnd, startOf}
-use Rattle.screen.specs.Screen.{memorySize, fieldsOf, wellFormed, panelOk, viewWidth, viewHeight, wholeDwords, mainImage, windowImage, imageOk, windowOk, windowWhole, fieldRows, screenRows}
+use Rattle.screen.specs.Screen.{memorySize, fieldsOf, wellFormed, panelOk, viewWidth, viewHeight, wholeDwords, mainImage, windowImage, lineOk, imageOk, windowOk, windowWhole, fieldRows, screenRows}
 use Rattle.screen.specs.Values.{windowX, windowY, originOf, valuesOf}
 use Rattle.screen.specs.Cases.{plain}
 use Rattle.command.specs.Command.{commandOf, surfaceOf, mustBeZero, formed, insideImage, placed, lineWords, wordsTaken, commandRows, refusal}
@@ -75,9 +75,9 @@ abbrev refusals : List Refusal
 refusals = refused 0 0 ∷ refused 0 0 ∷ refused 0 0 ∷ refused 1 0 ∷ refused 9 0 ∷ refused 10 0 ∷ refused 10 0 ∷ refused 11 0 ∷ refused 12 1 ∷ refused 14 1 ∷ refused 15 2 ∷ refused 16 0 ∷ []
 
 pub tasks-hold : map (taskRefusal memorySize) tasks ≡ refusals
-unfolding allZero firstOf partsFrom partsOf isDepth imageEnd startOf fieldsOf wellFormed panelOk viewWidth viewHeight wholeDwords mainImage windowImage imageOk windowOk windowWhole fieldRows screenRows windowX windowY originOf valuesOf commandOf surfaceOf mustBeZero formed insideImage placed lineWords wordsTaken commandRows refusal listRows firstRefusal allWords wordRows taskRefusal
+unfolding allZero firstOf partsFrom partsOf isDepth imageEnd startOf fieldsOf wellFormed panelOk viewWidth viewHeight wholeDwords mainImage windowImage lineOk imageOk windowOk windowWhole fieldRows screenRows windowX windowY originOf valuesOf commandOf surfaceOf mustBeZero formed insideImage placed lineWords wordsTaken commandRows refusal listRows firstRefusal allWords wordRows taskRefusal
 tasks-hold = refl
 
 pub accepted-hold : map (isAccepted memorySize) (task (panel 1) [] [] ∷ task [] [] [] ∷ []) ≡ true ∷ false ∷ []
-unfolding allZero firstOf partsFrom partsOf isDepth imageEnd startOf fieldsOf wellFormed panelOk viewWidth viewHeight wholeDwords mainImage windowImage imageOk windowOk windowWhole fieldRows screenRows windowX windowY originOf valuesOf listRows firstRefusal allWords wordRows taskRefusal
+unfolding allZero firstOf partsFrom partsOf isDepth imageEnd startOf fieldsOf wellFormed panelOk viewWidth viewHeight wholeDwords mainImage windowImage lineOk imageOk windowOk windowWhole fieldRows screenRows windowX windowY originOf valuesOf listRows firstRefusal allWords wordRows taskRefusal
 accepted-hold = refl

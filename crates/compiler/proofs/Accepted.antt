@@ -10,7 +10,7 @@ use borrow.Author.Tests.{eqb-true, eqb-false}
 use Rattle.record.specs.Checks.{firstOf, Refusal}
 use Rattle.record.proofs.Lists.{length-parts}
 use Rattle.command.specs.Task.{Task, screenIn, commandsIn, taskRefusal}
-use Rattle.command.proofs.Numbers.{between, first-between}
+use Rattle.command.proofs.Numbers.{allOf, first-between}
 use Rattle.command.proofs.Task.{Accepted as TaskAccepted, accepted-says, Placed, task-placed}
 use Rattle.compiler.specs.Stream.{recordsIn}
 use Rattle.compiler.specs.Compile.{roomRows, refusalOf, refusedBy, Compiling, compiling}
@@ -73,7 +73,7 @@ placed-by count n r p f false = p
 
 module _ (m : ℕ) (t : Task) (room : ℕ) where
   room-number : 0 < firstOf (roomRows t room) → 16 ≤ firstOf (roomRows t room)
-  unfolding roomRows between
+  unfolding roomRows allOf
   room-number h = first-between 16 17 (roomRows t room) refl h .0
 
   refusal-placed : Placed (length (t .list) / t .size) (refusalOf m t room)

@@ -1,24 +1,25 @@
 -- What acceptance of a screen says: its numbers, and its images in whole dwords.
 use Prim.Native.Nat.{ℕ, zero, suc, _+_, _-_, _*_, _/_, _%_, _<_, _≤_}
 use mathlib.Core.Path.{_≡_, refl, ap}
-use mathlib.Core.Bool.{Bool, true, false, not, _&&_, and-eq-true-iff}
+use mathlib.Core.Bool.{Bool, true, false, not, _&&_, _||_, cond, and-eq-true-iff}
 use native.Mathlib.Omega.{arith}
 use native.Mathlib.Nat.{div-add-mod, div-le-self, mul-le-mul, le-of-mul-le-mul-left}
-use lib.Dec.{eqb}
+use lib.Dec.{leb, eqb}
 use borrow.Author.Tests.{eqb-true, eq-eqb, leb-true, ltb-false, not-false}
 use Rattle.record.specs.Checks.{firstOf, AllPass}
+use Rattle.record.proofs.Choice.{and-left, and-right}
 use Rattle.record.proofs.Checks.{none}
 use Rattle.pixel.specs.Depth.{isDepth, perDword}
 use Rattle.pixel.proofs.Depth.{full, pos-left, depth-le}
-use Rattle.screen.specs.Image.{lineBytes, imageEnd, startOf}
-use Rattle.screen.specs.Screen.{panelOk, wholeDwords, mainImage, windowImage, imageOk, windowOk, windowWhole, fieldRows}
+use Rattle.screen.specs.Image.{lineBytes, linePixels, imageEnd}
+use Rattle.screen.specs.Screen.{panelOk, wholeDwords, mainImage, windowImage, lineOk, imageOk, windowOk, windowWhole, fieldRows}
 use Rattle.screen.specs.declared.Image.{Image}
 use Rattle.screen.specs.declared.Screen.{Screen}
 use Rattle.screen.proofs.Read.{field-numbered}
 use Rattle.screen.proofs.View.{view-sides}
 
 -- ---- an image in whole dwords, k pixels of d bits to a dword: its base, its line length and its width are b, l and m of them. A shown
--- line fits in a line, the line offset in its register, and the starts at 180 and 270 degrees are told by the line length.
+-- line fits in a line, and the line offset in its register.
 pub record Aligned (k d : ℕ) (i : Image) : Type 0 where
   pub b : ℕ
   pub l : ℕ
@@ -31,8 +32,6 @@ pub record Aligned (k d : ℕ) (i : Image) : Type 0 where
   pub high : 0 < i .height
   pub room : m ≤ l
   pub short : l ≤ 1023
-  pub start-180 : startOf 2 d i ≡ (i .base + (i .height - 1) * i .line + lineBytes d (i .width)) / 4 - 1
-  pub start-270 : startOf 3 d i ≡ (i .base + (i .height - 1) * i .line) / 4
 
 whole-is : (k n : ℕ) → n % k ≡ 0 → n ≡ k * (n / k)
 whole-is k n h = omega (arith, div-add-mod n k)
@@ -45,46 +44,30 @@ some k n (suc t) h e = omega arith
 pub bits-of : (k d n w : ℕ) → k * d ≡ 32 → w ≡ k * n → w * d ≡ 32 * n
 bits-of k d n w kd e = omega (arith, ap (λ (x : ℕ). x * d) e, ap (λ (x : ℕ). x * n) kd)
 
--- an image of n dwords a line, of lines as long as it is wide
-module _ (k d : ℕ) (kd : k * d ≡ 32) (i : Image) (n : ℕ) (width : i .width ≡ k * n) (line : i .line ≡ lineBytes d (i .width)) where
-  bits : i .width * d ≡ 32 * n
-  bits = bits-of k d n (i .width) kd width
+-- n pixels to a line, for an image of so many shown: whole dwords, room for what is shown, and an offset that fits
+pub record Lined (k d width n : ℕ) : Type 0 where
+  pub whole : n % k ≡ 0
+  pub room : width ≤ n
+  pub short : lineBytes d n ≤ 4092
 
-  dwords : i .line ≡ 4 * n
-  dwords = omega (arith, bits)
-
-  last-lines : (i .height - 1) * i .line ≡ 4 * ((i .height - 1) * n)
-  last-lines = omega (arith, ap (λ (x : ℕ). (i .height - 1) * x) dwords)
-
-  by-line-180 : 0 < i .height → startOf 2 d i ≡ (i .base + (i .height - 1) * i .line + lineBytes d (i .width)) / 4 - 1
-  unfolding startOf
-  by-line-180 h =
-      let e : i .height - 1 + 1 ≡ i .height = omega arith in
-      omega (arith, bits, last-lines, ap (λ (x : ℕ). x * n) e, ap (λ (x : ℕ). x * i .height) bits)
-
-  by-line-270 : startOf 3 d i ≡ (i .base + (i .height - 1) * i .line) / 4
-  unfolding startOf
-  by-line-270 = omega (arith, last-lines, ap (λ (x : ℕ). (i .height - 1) * x) bits)
-
--- such an image that passes the tests, of at most 1,024 pixels a line
-aligned : (k d : ℕ) (i : Image) → k * d ≡ 32 → i .base % 4 ≡ 0 → i .line ≡ lineBytes d (i .width) → i .width % k ≡ 0 → 0 < i .width → 0 < i .height → i .width ≤ 1024 → d ≤ 16 → Aligned k d i
-aligned k d i kd hb hl hw w h narrow low =
-    let n = i .width / k in
-    let e = whole-is k (i .width) hw in
+-- an image that passes the tests, of n pixels a line
+aligned : (k d n : ℕ) (i : Image) → k * d ≡ 32 → i .base % 4 ≡ 0 → i .line ≡ lineBytes d n → Lined k d (i .width) n → i .width % k ≡ 0 → 0 < i .width → 0 < i .height → Aligned k d i
+aligned k d n i kd hb hl o hw w h =
+    let en = whole-is k n (o .whole) in
+    let ew = whole-is k (i .width) hw in
+    let bits = bits-of k d (n / k) n kd en in
     record {
       b = i .base / 4;
-      l = n;
-      m = n;
+      l = n / k;
+      m = i .width / k;
       whole = kd;
       base-is = omega arith;
-      line-is = dwords k d kd i n e hl;
-      width-is = e;
-      wide = some k (i .width) n w e;
+      line-is = omega (arith, bits);
+      width-is = ew;
+      wide = some k (i .width) (i .width / k) w ew;
       high = h;
-      room = omega arith;
-      short = omega (arith, dwords k d kd i n e hl, mul-le-mul {n₂ = 1024} {m₂ = 16} narrow low);
-      start-180 = by-line-180 k d kd i n e hl h;
-      start-270 = by-line-270 k d kd i n e hl;
+      room = le-of-mul-le-mul-left {k = k} (omega (arith, en, ew, o .room)) (pos-left k d kd);
+      short = omega (arith, bits, o .short);
     }
 
 -- ---- what each row says where it passes
@@ -103,6 +86,29 @@ image-says m d i e =
 pub whole-says : (d n : ℕ) → wholeDwords d n ≡ true → n % perDword d ≡ 0
 unfolding wholeDwords
 whole-says d n e = eqb-true (n % perDword d) 0 e
+
+-- the line length, as given or as shown, of an image of at most 1,024 shown pixels a line
+module _ (d : ℕ) (ok : isDepth d ≡ true) (given width : ℕ) (narrow : width ≤ 1024) (shown : width % perDword d ≡ 0) where
+  lined-as-shown : Lined (perDword d) d width width
+  lined-as-shown =
+      record { whole = shown; room = omega arith; short = omega (arith, mul-le-mul {n₂ = 1024} {m₂ = 16} narrow (depth-le d ok)) }
+
+  lined-as-given : (leb width given && (wholeDwords d given && leb (lineBytes d given) (4 * 1023))) ≡ true → Lined (perDword d) d width given
+  lined-as-given e =
+      let p = and-right (leb width given) _ e in
+      record {
+        whole = whole-says d given (and-left (wholeDwords d given) _ p);
+        room = leb-true width given (and-left (leb width given) _ e);
+        short = omega (arith, leb-true (lineBytes d given) (4 * 1023) (and-right (wholeDwords d given) _ p));
+      }
+
+  line-says : lineOk d given width ≡ true → Lined (perDword d) d width (linePixels given width)
+  unfolding lineOk
+  line-says e = chosen (eqb given 0) refl e
+    where
+      chosen : (t : Bool) → eqb given 0 ≡ t → (t || (leb width given && (wholeDwords d given && leb (lineBytes d given) (4 * 1023)))) ≡ true → Lined (perDword d) d width (cond t width given)
+      chosen true z g = lined-as-shown
+      chosen false z g = lined-as-given g
 
 window-says : (s : Screen) → windowOk s ≡ true → (0 < s .window .width) × (0 < s .window .height) × (s .window .x + s .window .width ≤ mainImage s .width) × (s .window .y + s .window .height ≤ mainImage s .height)
 unfolding windowOk
@@ -131,6 +137,7 @@ pub record Accepted (m : ℕ) (s : Screen) : Type 0 where
   pub height : 0 < s .height
   pub low : s .height ≤ 1024
   pub view : mainImage s .width % perDword (s .depth) ≡ 0
+  pub line : lineOk (s .depth) (s .line) (mainImage s .width) ≡ true
   pub base : mainImage s .base % 4 ≡ 0
   pub ends : imageEnd (s .depth) (mainImage s) ≤ m
 
@@ -143,7 +150,7 @@ accepted m s e =
     let p = all-pass m s e in
     let depth = not-false (isDepth (s .depth)) (p .0) in
     let panel = panel-says (s .width) (s .height) (not-false _ (p .1 .1 .0)) in
-    let main = image-says m (s .depth) (mainImage s) (not-false _ (p .1 .1 .1 .1 .0)) in
+    let main = image-says m (s .depth) (mainImage s) (not-false _ (p .1 .1 .1 .1 .1 .0)) in
     record {
       depth = depth;
       whole = full (s .depth) depth;
@@ -154,6 +161,7 @@ accepted m s e =
       height = panel .3;
       low = panel .4;
       view = whole-says (s .depth) (mainImage s .width) (not-false _ (p .1 .1 .1 .0));
+      line = not-false _ (p .1 .1 .1 .1 .0);
       base = main .0;
       ends = main .1;
     }
@@ -170,7 +178,9 @@ module _ (m : ℕ) (s : Screen) (a : Accepted m s) where
   pub main-aligned : Aligned (perDword (s .depth)) (s .depth) (mainImage s)
   unfolding mainImage
   main-aligned =
-      aligned (perDword (s .depth)) (s .depth) (mainImage s) (a .whole) (a .base) refl (a .view) (main-sides .0) (main-sides .1) (main-sides .2) (depth-le (s .depth) (a .depth))
+      aligned (perDword (s .depth)) (s .depth) (linePixels (s .line) (mainImage s .width)) (mainImage s) (a .whole) (a .base) refl
+      (line-says (s .depth) (a .depth) (s .line) (mainImage s .width) (main-sides .2) (a .view) (a .line))
+      (a .view) (main-sides .0) (main-sides .1)
 
 -- ---- an accepted window: its place and width in the view, x and w of the view's v dwords
 pub record WindowLimits (m : ℕ) (s : Screen) : Type 0 where
@@ -197,19 +207,23 @@ sum-le k x w v h e =
     let g : k * (x + w) ≤ k * v = omega arith in
     le-of-mul-le-mul-left g h
 
-window-aligned : (m : ℕ) (s : Screen) → Accepted m s → windowImage s .base % 4 ≡ 0 → s .window .width % perDword (s .depth) ≡ 0 → 0 < s .window .width → 0 < s .window .height → s .window .width ≤ 1024 → Aligned (perDword (s .depth)) (s .depth) (windowImage s)
+window-aligned : (m : ℕ) (s : Screen) → Accepted m s → windowImage s .base % 4 ≡ 0 → lineOk (s .depth) (s .window .line) (s .window .width) ≡ true → s .window .width % perDword (s .depth) ≡ 0 → 0 < s .window .width → 0 < s .window .height → s .window .width ≤ 1024 → Aligned (perDword (s .depth)) (s .depth) (windowImage s)
 unfolding windowImage
-window-aligned m s a hb hw w h narrow = aligned (perDword (s .depth)) (s .depth) (windowImage s) (a .whole) hb refl hw w h narrow (depth-le (s .depth) (a .depth))
+window-aligned m s a hb hl hw w h narrow =
+    aligned (perDword (s .depth)) (s .depth) (linePixels (s .window .line) (s .window .width)) (windowImage s) (a .whole) hb refl
+    (line-says (s .depth) (a .depth) (s .window .line) (s .window .width) narrow hw hl)
+    hw w h
 
 pub window-limits : (m : ℕ) (s : Screen) → firstOf (fieldRows m s) ≡ 0 → s .flag ≡ 1 → WindowLimits m s
 unfolding fieldRows AllPass
 window-limits m s e on =
     let a = accepted m s e in
     let k = perDword (s .depth) in
-    let p = all-pass m s e .1 .1 .1 .1 .1 in
+    let p = all-pass m s e .1 .1 .1 .1 .1 .1 in
     let i = window-says s (asked (s .flag) (windowOk s) on (p .0)) in
     let h = window-whole-says s (asked (s .flag) (windowWhole s) on (p .1 .0)) in
-    let g = image-says m (s .depth) (windowImage s) (asked (s .flag) (imageOk m (s .depth) (windowImage s)) on (p .1 .1 .0)) in
+    let g = image-says m (s .depth) (windowImage s) (asked (s .flag) (imageOk m (s .depth) (windowImage s)) on (p .1 .1 .1 .0)) in
+    let l = asked (s .flag) (lineOk (s .depth) (s .window .line) (s .window .width)) on (p .1 .1 .0) in
     let ex = whole-is k (s .window .x) (h .0) in
     let ew = whole-is k (s .window .width) (h .1) in
     let ev = whole-is k (mainImage s .width) (a .view) in
@@ -228,7 +242,7 @@ window-limits m s e on =
       bottom = i .3;
       span = omega (arith, div-le-self (mainImage s .width) k, main-sides m s a .2);
       lines = main-sides m s a .3;
-      image = window-aligned m s a (g .0) (h .1) (i .0) (i .1) (omega (arith, i .2, main-sides m s a .2));
+      image = window-aligned m s a (g .0) l (h .1) (i .0) (i .1) (omega (arith, i .2, main-sides m s a .2));
       ends = g .1;
     }
 

@@ -5,5 +5,6 @@ pub mod Read
 pub mod Accepted
 pub mod Starts
 pub mod Values
+pub mod Shown
 pub mod Spans
 pub mod Fits

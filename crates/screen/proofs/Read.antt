@@ -18,7 +18,7 @@ use Rattle.screen.specs.declared.ScreenAnswer.the-variants.{Accepted, Re
 -- 0 is the number of no row
 pub field-numbered : (m : ℕ) (s : Screen) → Numbered (fieldRows m s)
 unfolding fieldRows Numbered
-field-numbered m s = (lit< tt, (lit< tt, (lit< tt, (lit< tt, (lit< tt, (lit< tt, (lit< tt, (lit< tt, tt))))))))
+field-numbered m s = (lit< tt, (lit< tt, (lit< tt, (lit< tt, (lit< tt, (lit< tt, (lit< tt, (lit< tt, (lit< tt, (lit< tt, tt))))))))))
 
 pub screen-numbered : (m : ℕ) (b : List ℕ) → Numbered (screenRows m b)
 unfolding screenRows Numbered
@@ -60,7 +60,7 @@ answers : (t : Bool) (n : ℕ) (u s : Screen) → cond t (Accepted u) (Refused n
 answers true n u s e = (refl, (cc))
 answers false n u s e = let z : _≡_ {A = ℕ} 0 1 = cc in absurd (omega arith)
 
--- an accepted record: its screen is its fields, none of 1 to 9 holds, and its flag is 0 or 1
+-- an accepted record: its screen is its fields, none of 1 to 9 and 26 holds, and its flag is 0 or 1
 pub read-accepted : (m : ℕ) (b : List ℕ) (s : Screen) → screenOf m b ≡ Accepted s → (s ≡ fieldsOf b) × (firstOf (screenRows m b) ≡ 0) × (firstOf (fieldRows m s) ≡ 0) × (s .flag ≤ 1) × (length b ≡ 32)
 unfolding screenOf screenRows
 read-accepted m b s e =

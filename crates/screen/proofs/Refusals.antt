@@ -9,16 +9,16 @@ use Rattle.record.specs.Bytes.{allZero, twoBytes, fourBytes}
 use Rattle.record.specs.Checks.{firstOf}
 use Rattle.pixel.specs.Depth.{isDepth}
 use Rattle.screen.specs.Image.{imageEnd, startOf}
-use Rattle.screen.specs.Screen.{memorySize, fieldsOf, wellFormed, panelOk, viewWidth, viewHeight, wholeDwords, mainImage, windowImage, imageOk, windowOk, windowWhole, fieldRows, screenRows}
+use Rattle.screen.specs.Screen.{memorySize, fieldsOf, wellFormed, panelOk, viewWidth, viewHeight, wholeDwords, mainImage, windowImage, lineOk, imageOk, windowOk, windowWhole, fieldRows, screenRows}
 use Rattle.screen.specs.Values.{windowX, windowY, originOf, valuesOf}
 use Rattle.screen.specs.Fields.{valuesFit}
-use Rattle.screen.specs.Cases.{plain, withWindow}
+use Rattle.screen.specs.Cases.{lined, plain, windowLined, withWindow}
 use Rattle.screen.specs.declared.Screen.{Screen}
 
 abbrev number : List ℕ → ℕ
 number b = firstOf (screenRows memorySize b)
 
--- a record of a panel at a depth, with a window at a base, no line longer than it shows
+-- a record of a panel at a depth, with a window at a base, lines as long as the shown width
 abbrev screen : ℕ → ℕ → ℕ → ℕ → ℕ → ℕ → ℕ → ℕ → ℕ → ℕ → List ℕ
 screen depth rotation width height base windowBase x y w h =
     depth ∷ rotation ∷ 1 ∷ 0 ∷ twoBytes width ++ twoBytes height ++ fourBytes base ++ fourBytes windowBase ++ twoBytes x ++ twoBytes y ++ twoBytes w ++ twoBytes h ++ fourBytes 0 ++ fourBytes 0
@@ -30,7 +30,8 @@ bare = plain 4 0 320 240 0
 abbrev full : List ℕ
 full = withWindow 0 8 1 16 2
 
--- of two rows that fail at once the lower number is given: 1 and 2, 2 and 3, .., 8 and 9
+-- of two rows that fail at once the first is given: 1 and 2, 2 and 3, .., 8 and 9; and with the main image's 26: 1, 5, 6, 7, with the window's:
+-- 6, 7, 8, 9
 pub first-of-two : map number (
     set (set bare 3 1) 0 3
     ∷ set (set bare 0 3) 1 4
@@ -40,12 +41,24 @@ pub first-of-two : map number (
     ∷ screen 4 0 320 240 2 0 8 1 0 2
     ∷ screen 4 0 320 240 0 0 316 1 8 2
     ∷ screen 4 0 320 240 0 2 4 1 16 2
+    ∷ set (lined 4 0 320 240 0 8) 3 1
+    ∷ lined 4 1 320 241 0 8
+    ∷ lined 4 0 320 240 2 8
+    ∷ windowLined 0 8 1 0 2 0 0 8 0
+    ∷ windowLined 0 8 1 16 2 2 0 0 8
+    ∷ windowLined 0 8 1 16 0 0 0 0 8
+    ∷ windowLined 0 4 1 16 2 0 0 0 8
+    ∷ windowLined 0 8 1 16 2 0 2 0 8
     ∷ [])
-    ≡ 1 ∷ 2 ∷ 3 ∷ 4 ∷ 5 ∷ 6 ∷ 7 ∷ 8 ∷ []
-unfolding allZero firstOf isDepth imageEnd fieldsOf wellFormed panelOk viewWidth viewHeight wholeDwords mainImage windowImage imageOk windowOk windowWhole fieldRows screenRows
+    ≡ 1 ∷ 2 ∷ 3 ∷ 4 ∷ 5 ∷ 6 ∷ 7 ∷ 8
+    ∷ 1 ∷ 5 ∷ 26 ∷ 26
+    ∷ 6 ∷ 7 ∷ 8 ∷ 26
+    ∷ []
+unfolding allZero firstOf isDepth imageEnd fieldsOf wellFormed panelOk viewWidth viewHeight wholeDwords mainImage windowImage lineOk imageOk windowOk windowWhole fieldRows screenRows
 first-of-two = refl
 
--- 1: 31 and 33 bytes, flag 2, and each byte that must be zero at its edge: 3, 24, 31, and with flag 0 alone 12 and 23
+-- 1: 31 and 33 bytes, flag 2, and each byte that must be zero at its edge: 3, 28, 31, and with flag 0 alone 12 and 23, 26 and 27; a line length of
+-- main may stand in any record
 pub form : map number (
     bare
     ∷ full
@@ -53,17 +66,25 @@ pub form : map number (
     ∷ (bare ++ (0 ∷ []))
     ∷ set full 2 2
     ∷ set bare 3 1
-    ∷ set bare 24 1
+    ∷ set bare 28 1
     ∷ set bare 31 1
-    ∷ set full 24 1
+    ∷ set full 28 1
     ∷ set full 31 1
     ∷ set bare 12 1
     ∷ set bare 23 1
     ∷ set full 12 4
     ∷ set full 23 1
+    ∷ set bare 26 16
+    ∷ set bare 27 1
+    ∷ set full 26 16
+    ∷ set full 27 1
+    ∷ set bare 25 2
+    ∷ set bare 24 1
     ∷ [])
-    ≡ 0 ∷ 0 ∷ 1 ∷ 1 ∷ 1 ∷ 1 ∷ 1 ∷ 1 ∷ 1 ∷ 1 ∷ 1 ∷ 1 ∷ 0 ∷ 7 ∷ []
-unfolding allZero firstOf isDepth imageEnd fieldsOf wellFormed panelOk viewWidth viewHeight wholeDwords mainImage windowImage imageOk windowOk windowWhole fieldRows screenRows
+    ≡ 0 ∷ 0 ∷ 1 ∷ 1 ∷ 1 ∷ 1 ∷ 1 ∷ 1 ∷ 1 ∷ 1 ∷ 1 ∷ 1 ∷ 0 ∷ 7
+    ∷ 1 ∷ 1 ∷ 0 ∷ 0 ∷ 0 ∷ 26
+    ∷ []
+unfolding allZero firstOf isDepth imageEnd fieldsOf wellFormed panelOk viewWidth viewHeight wholeDwords mainImage windowImage lineOk imageOk windowOk windowWhole fieldRows screenRows
 form = refl
 
 -- 2: depths; 3: rotations; 4: widths and heights; 5: a view turned by 90 degrees is as wide as the panel is high
@@ -78,7 +99,7 @@ pub panels : map number (
     ∷ 0 ∷ 0 ∷ 4 ∷ 4 ∷ 4 ∷ 4 ∷ 4
     ∷ 5 ∷ 0 ∷ 5 ∷ 0 ∷ 5
     ∷ []
-unfolding allZero firstOf isDepth imageEnd fieldsOf wellFormed panelOk viewWidth viewHeight wholeDwords mainImage windowImage imageOk windowOk windowWhole fieldRows screenRows
+unfolding allZero firstOf isDepth imageEnd fieldsOf wellFormed panelOk viewWidth viewHeight wholeDwords mainImage windowImage lineOk imageOk windowOk windowWhole fieldRows screenRows
 panels = refl
 
 -- 6: the base, and an image that ends at the last byte or a line past it; 7: sizes and sides of the window; 8: its x and width; 9: its base
@@ -96,11 +117,11 @@ pub windows : map number (
     ∷ 8 ∷ 8
     ∷ 9 ∷ 0 ∷ 9
     ∷ []
-unfolding allZero firstOf isDepth imageEnd fieldsOf wellFormed panelOk viewWidth viewHeight wholeDwords mainImage windowImage imageOk windowOk windowWhole fieldRows screenRows
+unfolding allZero firstOf isDepth imageEnd fieldsOf wellFormed panelOk viewWidth viewHeight wholeDwords mainImage windowImage lineOk imageOk windowOk windowWhole fieldRows screenRows
 windows = refl
 
 -- the fields of a record of the bytes 0, 1, 2 and so on: numbers are little-endian
-pub fields : fieldsOf (0 ∷ 1 ∷ 2 ∷ 3 ∷ 4 ∷ 5 ∷ 6 ∷ 7 ∷ 8 ∷ 9 ∷ 10 ∷ 11 ∷ 12 ∷ 13 ∷ 14 ∷ 15 ∷ 16 ∷ 17 ∷ 18 ∷ 19 ∷ 20 ∷ 21 ∷ 22 ∷ 23 ∷ [])
+pub fields : fieldsOf (0 ∷ 1 ∷ 2 ∷ 3 ∷ 4 ∷ 5 ∷ 6 ∷ 7 ∷ 8 ∷ 9 ∷ 10 ∷ 11 ∷ 12 ∷ 13 ∷ 14 ∷ 15 ∷ 16 ∷ 17 ∷ 18 ∷ 19 ∷ 20 ∷ 21 ∷ 22 ∷ 23 ∷ 24 ∷ 25 ∷ 26 ∷ 27 ∷ [])
     ≡ record {
       depth = 0;
       rotation = 1;
@@ -108,7 +129,8 @@ pub fields : fieldsOf (0 ∷ 1 ∷ 2 ∷ 3 ∷ 4 ∷ 5 ∷ 6 ∷ 7 ∷ 8 ∷ 9 �
       width = 0x0504;
       height = 0x0706;
       base = 0x0B0A0908;
-      window = record { base = 0x0F0E0D0C; x = 0x1110; y = 0x1312; width = 0x1514; height = 0x1716 };
+      line = 0x1918;
+      window = record { base = 0x0F0E0D0C; x = 0x1110; y = 0x1312; width = 0x1514; height = 0x1716; line = 0x1B1A };
     }
 unfolding fieldsOf
 fields = refl

@@ -41,10 +41,12 @@ module _ (k d : ℕ) (i : Image) (a : Aligned k d i) where
   start1 = omega (arith, a .base-is, a .wide, row)
 
   pub start2 : startOf 2 d i + 1 ≡ a .b + (i .height - 1) * a .l + a .m
-  start2 = omega (arith, a .start-180, a .wide, last-line, row)
+  unfolding startOf
+  start2 = omega (arith, a .wide, last-line, row)
 
   pub start3 : startOf 3 d i ≡ a .b + (i .height - 1) * a .l
-  start3 = omega (arith, a .start-270, last-line)
+  unfolding startOf
+  start3 = omega (arith, last-line)
 
   -- the start dword is one of the image's
   pub start-below : (r : ℕ) → r < 4 → 4 * startOf r d i + 4 ≤ imageEnd d i

@@ -1,5 +1,5 @@
--- The screen record (01, "Stored records"), and its refusals 1 to 9 (01, "Refusal numbers").
-use Prim.Native.Nat.{ℕ, _+_, _%_}
+-- The screen record (01, "Stored records"; 02, c), and its refusals 1 to 9 and 26 (01, "Refusal numbers"; 02, c).
+use Prim.Native.Nat.{ℕ, _+_, _*_, _%_}
 use mathlib.Core.List.{List, [], _∷_}
 use mathlib.Core.Bool.{Bool, _&&_, _||_, not, cond}
 use lib.ListN.{length, take, drop}
@@ -7,7 +7,7 @@ use lib.Dec.{ltb, leb, eqb}
 use Rattle.record.specs.Bytes.{byteAt, u16At, u32At, allZero}
 use Rattle.record.specs.Checks.{Row, row, firstOf}
 use Rattle.pixel.specs.Depth.{isDepth, perDword}
-use Rattle.screen.specs.Image.{lineBytes, imageEnd}
+use Rattle.screen.specs.Image.{lineBytes, linePixels, imageEnd}
 use Rattle.screen.specs.declared.Image.{Image}
 use Rattle.screen.specs.declared.Screen.{Screen}
 use Rattle.screen.specs.declared.ScreenAnswer.{ScreenAnswer}
@@ -27,6 +27,7 @@ fieldsOf b =
       width = u16At b 4;
       height = u16At b 6;
       base = u32At b 8;
+      line = u16At b 24;
       window =
           record {
             base = u32At b 12;
@@ -34,17 +35,19 @@ fieldsOf b =
             y = u16At b 18;
             width = u16At b 20;
             height = u16At b 22;
+            line = u16At b 26;
           };
     }
 
--- the record has 32 bytes, its flag is 0 or 1, and what must be zero is: byte 3, bytes 24-31, and with flag 0 bytes 12-23
+-- the record has 32 bytes, its flag is 0 or 1, and what must be zero is: byte 3, bytes 28-31, and with flag 0 bytes 12-23 and the
+-- window's line length
 unfoldable pub wellFormed : List ℕ → Bool
 wellFormed b =
     eqb (length b) 32
     && (leb (byteAt b 2) 1
     && (eqb (byteAt b 3) 0
-    && (allZero (take 8 (drop 24 b))
-    && (not (eqb (byteAt b 2) 0) || allZero (take 12 (drop 12 b))))))
+    && (allZero (take 4 (drop 28 b))
+    && (not (eqb (byteAt b 2) 0) || (allZero (take 12 (drop 12 b)) && allZero (take 2 (drop 26 b)))))))
 
 -- the panel's width is a multiple of 8 in 8 to 1,024, its height 1 to 1,024
 unfoldable pub panelOk : ℕ → ℕ → Bool
@@ -65,12 +68,12 @@ viewHeight rotation width height = cond (quarter rotation) width height
 unfoldable pub wholeDwords : ℕ → ℕ → Bool
 wholeDwords depth n = eqb (n % perDword depth) 0
 
--- the main image is the view
+-- the main image shows the view
 unfoldable pub mainImage : Screen → Image
 mainImage s =
     record {
       base = s .base;
-      line = lineBytes (s .depth) (viewWidth (s .rotation) (s .width) (s .height));
+      line = lineBytes (s .depth) (linePixels (s .line) (viewWidth (s .rotation) (s .width) (s .height)));
       width = viewWidth (s .rotation) (s .width) (s .height);
       height = viewHeight (s .rotation) (s .width) (s .height);
     }
@@ -79,10 +82,14 @@ unfoldable pub windowImage : Screen → Image
 windowImage s =
     record {
       base = s .window .base;
-      line = lineBytes (s .depth) (s .window .width);
+      line = lineBytes (s .depth) (linePixels (s .window .line) (s .window .width));
       width = s .window .width;
       height = s .window .height;
     }
+
+-- a line length that is given is not below the shown width, a multiple of 32 ÷ depth, and not over 1,023 dwords
+unfoldable pub lineOk : ℕ → ℕ → ℕ → Bool
+lineOk depth given width = eqb given 0 || (leb width given && (wholeDwords depth given && leb (lineBytes depth given) (4 * 1023)))
 
 -- the base is a multiple of 4, and the image does not end past byte m
 unfoldable pub imageOk : ℕ → ℕ → Image → Bool
@@ -100,24 +107,26 @@ windowOk s =
 unfoldable pub windowWhole : Screen → Bool
 windowWhole s = wholeDwords (s .depth) (s .window .x) && wholeDwords (s .depth) (s .window .width)
 
--- "7 to 9 apply with flag 1 only"
+-- "7 to 9 apply with flag 1 only", and so does the window's 26
 abbrev pub windowed : Screen → Bool
 windowed s = eqb (s .flag) 1
 
--- 01's table, rows 2 to 9, in a memory of m bytes
+-- 01's table, rows 2 to 9, in a memory of m bytes; 26 "after 5 for main and after 8 for the window"
 unfoldable pub fieldRows : ℕ → Screen → List Row
 fieldRows m s =
     row 2 (not (isDepth (s .depth)))
     ∷ row 3 (ltb 3 (s .rotation))
     ∷ row 4 (not (panelOk (s .width) (s .height)))
     ∷ row 5 (not (wholeDwords (s .depth) (mainImage s .width)))
+    ∷ row 26 (not (lineOk (s .depth) (s .line) (mainImage s .width)))
     ∷ row 6 (not (imageOk m (s .depth) (mainImage s)))
     ∷ row 7 (windowed s && not (windowOk s))
     ∷ row 8 (windowed s && not (windowWhole s))
+    ∷ row 26 (windowed s && not (lineOk (s .depth) (s .window .line) (s .window .width)))
     ∷ row 9 (windowed s && not (imageOk m (s .depth) (windowImage s)))
     ∷ []
 
--- rows 1 to 9
+-- row 1, and these
 unfoldable pub screenRows : ℕ → List ℕ → List Row
 screenRows m b = row 1 (not (wellFormed b)) ∷ fieldRows m (fieldsOf b)
 

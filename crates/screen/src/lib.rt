@@ -1,15 +1,16 @@
 // The screen record, and the six screen register values.
 
-// The small window: its image's base, its place in the view, and its size.
+// The small window: its image's base, its place in the view, its size, and its image's line length in pixels (0: the shown width).
 pub struct Window {
     pub base: u32,
     pub x: u16,
     pub y: u16,
     pub width: u16,
     pub height: u16,
+    pub line: u16,
 }
 
-// A screen record's fields.
+// A screen record's fields. The line is the main image's line length in pixels (0: the shown width).
 pub struct Screen {
     pub depth: u8,
     pub rotation: u8,
@@ -17,6 +18,7 @@ pub struct Screen {
     pub width: u16,
     pub height: u16,
     pub base: u32,
+    pub line: u16,
     pub window: Window,
 }
 

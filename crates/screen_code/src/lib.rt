@@ -2,8 +2,8 @@
 ghost use mathlib.Core.Path.{_≡_};
 ghost use lib.ListN.{length};
 ghost use Rattle.record.specs.Checks.{firstOf};
-ghost use Rattle.screen.specs.Image.{lineBytes, imageEnd};
-ghost use Rattle.screen.specs.Screen.{fieldsOf, wellFormed, panelOk, quarter, viewWidth, viewHeight, wholeDwords, mainImage, windowImage, imageOk, windowOk, windowWhole, fieldRows, screenRows, screenOf, numberOf, memorySize};
+ghost use Rattle.screen.specs.Image.{lineBytes, linePixels, imageEnd};
+ghost use Rattle.screen.specs.Screen.{fieldsOf, wellFormed, panelOk, quarter, viewWidth, viewHeight, wholeDwords, mainImage, windowImage, lineOk, imageOk, windowOk, windowWhole, fieldRows, screenRows, screenOf, numberOf, memorySize};
 use screen::Image;
 use screen::Screen;
 use screen::ScreenAnswer;
@@ -20,6 +20,7 @@ fn fields(b: &[u8]) -> Screen
         y: record_code::u16_at(b, 18),
         width: record_code::u16_at(b, 20),
         height: record_code::u16_at(b, 22),
+        line: record_code::u16_at(b, 26),
     };
     Screen {
         depth: b[0],
@@ -28,6 +29,7 @@ fn fields(b: &[u8]) -> Screen
         width: record_code::u16_at(b, 4),
         height: record_code::u16_at(b, 6),
         base: record_code::u32_at(b, 8),
+        line: record_code::u16_at(b, 24),
         window,
     }
 }
@@ -39,9 +41,10 @@ fn is_well_formed(b: &[u8]) -> bool
     if b.len() != 32 {
         return false;
     }
-    let rest = record_code::all_zero(&b[24..32]);
+    let rest = record_code::all_zero(&b[28..32]);
     let window = record_code::all_zero(&b[12..24]);
-    (b[2] <= 1) & ((b[3] == 0) & (rest & ((b[2] != 0) | window)))
+    let line = record_code::all_zero(&b[26..28]);
+    (b[2] <= 1) & ((b[3] == 0) & (rest & ((b[2] != 0) | (window & line))))
 }
 
 // Refusal 4.
@@ -85,13 +88,28 @@ fn line_bytes(depth: u8, n: u16) -> u32
     (n as u32) * (depth as u32) / 8
 }
 
+// The line length in pixels of an image that shows so many: as given, or, for 0, as shown.
+fn line_pixels(given: u16, width: u16) -> u16
+    ensures { λ r. ⌜ r ≡ linePixels given width ⌝ }
+{
+    if given == 0 { width } else { given }
+}
+
+// Refusal 26: whether a line length that is given has room for what is shown, is whole dwords, and not over 1,023 of them.
+fn is_line(depth: u8, given: u16, width: u16) -> bool
+    ensures { λ r. ⌜ r ≡ lineOk depth given width ⌝ }
+{
+    let whole = is_whole(depth as u32, given as u32);
+    (given == 0) | ((width <= given) & (whole & (line_bytes(depth, given) <= 4 * 1023)))
+}
+
 // The main image.
 pub fn main_image(s: Screen) -> Image
     ensures { λ r. ⌜ r ≡ mainImage s ⌝ }
 {
     let width = view_width(s.rotation as u32, s.width as u32, s.height as u32) as u16;
     let height = view_height(s.rotation as u32, s.width as u32, s.height as u32) as u16;
-    let line = line_bytes(s.depth, width);
+    let line = line_bytes(s.depth, line_pixels(s.line, width));
     Image {
         base: s.base,
         line,
@@ -105,7 +123,7 @@ pub fn window_image(s: Screen) -> Image
     ensures { λ r. ⌜ r ≡ windowImage s ⌝ }
 {
     let w = s.window;
-    let line = line_bytes(s.depth, w.width);
+    let line = line_bytes(s.depth, line_pixels(w.line, w.width));
     Image {
         base: w.base,
         line,
@@ -150,7 +168,7 @@ fn is_window_whole(s: Screen) -> bool
 }
 
 // The numbers of the checks of a screen's fields, in their order.
-const FIELD_CHECKS: [u32; 8] = [2, 3, 4, 5, 6, 7, 8, 9];
+const FIELD_CHECKS: [u32; 10] = [2, 3, 4, 5, 26, 6, 7, 8, 26, 9];
 
 // The first of these that a screen's fields give in a memory of so many bytes; 0 for none.
 fn first_fault(memory: u64, s: Screen) -> u32
@@ -158,21 +176,24 @@ fn first_fault(memory: u64, s: Screen) -> u32
 {
     let main = main_image(s);
     let window = window_image(s);
+    let w = s.window;
     let windowed = s.flag == 1;
     let fails = [
         !pixel_code::is_depth(s.depth as u32),
         3 < s.rotation,
         !is_panel(s.width as u32, s.height as u32),
         !is_whole(s.depth as u32, main.width as u32),
+        !is_line(s.depth, s.line, main.width),
         !is_image(memory, s.depth, main),
         windowed & !is_window(s),
         windowed & !is_window_whole(s),
+        windowed & !is_line(s.depth, w.line, w.width),
         windowed & !is_image(memory, s.depth, window),
     ];
     record_code::first_of(&FIELD_CHECKS, &fails)
 }
 
-// The screen that a record says in a memory of so many bytes, or the first refusal number of 1 to 9.
+// The screen that a record says in a memory of so many bytes, or the first refusal number of 1 to 9 and 26.
 pub fn read_screen_in(memory: u64, bytes: &[u8]) -> ScreenAnswer
     ensures { λ r. ⌜ r ≡ screenOf memory (now (bytes .entry)) ⌝ }
     ensures { λ r. ⌜ numberOf r ≡ firstOf (screenRows memory (now (bytes .entry))) ⌝ }

@@ -15,19 +15,18 @@ fn start_of(rotation: u8, depth: u8, i: Image) -> u64
     ensures { λ r. ⌜ r ≡ startOf rotation depth i ⌝ }
 {
     let base = i.base as u64;
-    let width = i.width as u64;
-    let height = i.height as u64;
-    let bits = depth as u64;
+    let shown = (i.width as u64) * (depth as u64) / 8;
+    let last = record_code::minus(i.height as u64, 1) * (i.line as u64);
     if rotation == 0 {
         return base / 4;
     }
     if rotation == 1 {
-        return record_code::minus((base + width * bits / 8) / 4, 1);
+        return record_code::minus((base + shown) / 4, 1);
     }
     if rotation == 2 {
-        return record_code::minus((base + width * height * bits / 8) / 4, 1);
+        return record_code::minus((base + last + shown) / 4, 1);
     }
-    (base + record_code::minus(height, 1) * width * bits / 8) / 4
+    (base + last) / 4
 }
 
 // Start and line offset of an image.

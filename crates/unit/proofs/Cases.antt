@@ -1,4 +1,4 @@
--- 01's cases: one list, one claim, computed.
+-- 01's cases, and those of line lengths: one list, one claim, computed.
 use mathlib.Core.Path.{_≡_, refl}
 use mathlib.Core.Bool.{true}
 use Rattle.record.specs.Bytes.{allZero}
@@ -8,9 +8,9 @@ use Rattle.pixel.specs.Depth.{isDepth}
 use Rattle.pixel.specs.Pixel.{getPixel, putPixel, byteOf}
 use Rattle.pixel.specs.Raster.{bitwise}
 use Rattle.screen.specs.Image.{imageEnd, startOf}
-use Rattle.screen.specs.Screen.{fieldsOf, wellFormed, panelOk, viewWidth, viewHeight, wholeDwords, mainImage, windowImage, imageOk, windowOk, windowWhole, fieldRows, screenRows, screenOf}
+use Rattle.screen.specs.Screen.{fieldsOf, wellFormed, panelOk, viewWidth, viewHeight, wholeDwords, mainImage, windowImage, lineOk, imageOk, windowOk, windowWhole, fieldRows, screenRows, screenOf}
 use Rattle.screen.specs.Values.{windowX, windowY, originOf, valuesOf}
-use Rattle.screen.specs.Cases.{allHold, screenCases}
+use Rattle.screen.specs.Cases.{allHold, screenCases, lineCases}
 use Rattle.blit.specs.Blit.{pixels, chipLine, chipLines, chipBlit}
 use Rattle.blit.specs.Job.{blitOf}
 use Rattle.blit.specs.Words.{wordPixel, hostPixel, chipWord}
@@ -28,5 +28,5 @@ use Rattle.unit.specs.Sheet.{sheetPixel, hostPixel as sheet·hostPixel, 
 use Rattle.unit.specs.Cases.{drawCases, cases}
 
 pub cases-hold : allHold cases ≡ true
-unfolding allZero firstOf recordBytes streamBytes recordAt recordsFrom recordsOf isDepth getPixel putPixel byteOf bitwise imageEnd startOf fieldsOf wellFormed panelOk viewWidth viewHeight wholeDwords mainImage windowImage imageOk windowOk windowWhole fieldRows screenRows screenOf windowX windowY originOf valuesOf allHold screenCases pixels chipLine chipLines chipBlit wordPixel hostPixel chipWord listed fits screenAfter blitAfter startable span within sourceFits mixBy fromBy jobOf blitOf writeOf started admitRows admit·refusal dueAfter dueOf chipAfter effect newChip run applied ending playing played commandOf commandBytes surfaceOf mustBeZero formed insideImage placed lineWords wordsTaken commandRows refusal addressOf destinationOf sourceOf isNegative lastColumn lastLine commandValue sourceValue destinationValue controlValue blitValues partsFrom partsOf recordsWith screenRecords dataRecords commandRecords drawRecords recordsFor listRows firstRefusal allWords wordRows taskRefusal roomRows refusalOf compiling streamOf sheetPixel sheet·hostPixel sheetSource sheetMix newPixel changes sheetByte sheetCommand sheetCommands sheetAfter drawCases cases
+unfolding allZero firstOf recordBytes streamBytes recordAt recordsFrom recordsOf isDepth getPixel putPixel byteOf bitwise imageEnd startOf fieldsOf wellFormed panelOk viewWidth viewHeight wholeDwords mainImage windowImage lineOk imageOk windowOk windowWhole fieldRows screenRows screenOf windowX windowY originOf valuesOf allHold screenCases lineCases pixels chipLine chipLines chipBlit wordPixel hostPixel chipWord listed fits screenAfter blitAfter startable span within sourceFits mixBy fromBy jobOf blitOf writeOf started admitRows admit·refusal dueAfter dueOf chipAfter effect newChip run applied ending playing played commandOf commandBytes surfaceOf mustBeZero formed insideImage placed lineWords wordsTaken commandRows refusal addressOf destinationOf sourceOf isNegative lastColumn lastLine commandValue sourceValue destinationValue controlValue blitValues partsFrom partsOf recordsWith screenRecords dataRecords commandRecords drawRecords recordsFor listRows firstRefusal allWords wordRows taskRefusal roomRows refusalOf compiling streamOf sheetPixel sheet·hostPixel sheetSource sheetMix newPixel changes sheetByte sheetCommand sheetCommands sheetAfter drawCases cases
 cases-hold = refl

@@ -10,7 +10,7 @@ use Rattle.pixel.specs.Depth.{isDepth}
 use Rattle.pixel.specs.Pixel.{byteOf}
 use Rattle.pixel.specs.Raster.{bitwise}
 use Rattle.screen.specs.Image.{imageEnd, startOf}
-use Rattle.screen.specs.Screen.{fieldsOf, wellFormed, panelOk, viewWidth, viewHeight, wholeDwords, mainImage, windowImage, imageOk, windowOk, windowWhole, fieldRows, screenRows}
+use Rattle.screen.specs.Screen.{fieldsOf, wellFormed, panelOk, viewWidth, viewHeight, wholeDwords, mainImage, windowImage, lineOk, imageOk, windowOk, windowWhole, fieldRows, screenRows}
 use Rattle.screen.specs.Values.{windowX, windowY, originOf, valuesOf}
 use Rattle.screen.specs.declared.Image.{Image}
 use Rattle.view.specs.View.{pixelAt, viewPixel, inWindow, windowPixel}
@@ -104,7 +104,7 @@ pub drawings : draws (command 0 0 0 0 1 1 0 0 99) [] 120 old
     ∷ (13 ∷ 1 ∷ 0 ∷ 0 ∷ 0 ∷ 0 ∷ 1 ∷ 2 ∷ 7 ∷ [])
     ∷ (17 ∷ 0 ∷ 0 ∷ 0 ∷ 0 ∷ 0 ∷ 1 ∷ 2 ∷ 7 ∷ [])
     ∷ []
-unfolding allZero firstOf recordBytes streamBytes isDepth byteOf bitwise imageEnd startOf fieldsOf wellFormed panelOk viewWidth viewHeight wholeDwords mainImage windowImage imageOk windowOk windowWhole fieldRows screenRows windowX windowY originOf valuesOf commandOf commandBytes surfaceOf mustBeZero formed insideImage placed lineWords wordsTaken commandRows refusal addressOf destinationOf sourceOf isNegative lastColumn lastLine commandValue sourceValue destinationValue controlValue blitValues partsFrom partsOf recordsWith screenRecords dataRecords commandRecords drawRecords recordsFor listRows firstRefusal allWords wordRows taskRefusal roomRows refusalOf compiling streamOf bufferAfter sheetPixel hostPixel sheetSource sheetMix newPixel changes sheetByte sheetCommand sheetCommands sheetAfter drawing memoryDrawn streamDrawn
+unfolding allZero firstOf recordBytes streamBytes isDepth byteOf bitwise imageEnd startOf fieldsOf wellFormed panelOk viewWidth viewHeight wholeDwords mainImage windowImage lineOk imageOk windowOk windowWhole fieldRows screenRows windowX windowY originOf valuesOf commandOf commandBytes surfaceOf mustBeZero formed insideImage placed lineWords wordsTaken commandRows refusal addressOf destinationOf sourceOf isNegative lastColumn lastLine commandValue sourceValue destinationValue controlValue blitValues partsFrom partsOf recordsWith screenRecords dataRecords commandRecords drawRecords recordsFor listRows firstRefusal allWords wordRows taskRefusal roomRows refusalOf compiling streamOf bufferAfter sheetPixel hostPixel sheetSource sheetMix newPixel changes sheetByte sheetCommand sheetCommands sheetAfter drawing memoryDrawn streamDrawn
 drawings = refl
 
 -- the numbers of an answer, and the answer with these numbers
@@ -122,10 +122,10 @@ shows p q = let r = showing 24 (screen 8) p q old in r .number ∷ r .place ∷ 
 
 pub showings : map (λ p. shows p 1) (0 ∷ 3 ∷ 4 ∷ 7 ∷ 8 ∷ [])
     ≡ (0 ∷ 0 ∷ 9 ∷ []) ∷ (0 ∷ 0 ∷ 12 ∷ []) ∷ (0 ∷ 0 ∷ 21 ∷ []) ∷ (0 ∷ 0 ∷ 24 ∷ []) ∷ (24 ∷ 0 ∷ 0 ∷ []) ∷ []
-unfolding allZero firstOf isDepth imageEnd fieldsOf wellFormed panelOk viewWidth viewHeight wholeDwords mainImage windowImage imageOk windowOk windowWhole fieldRows screenRows viewPixel inWindow windowPixel sheetPixel sheetShows showRows showing
+unfolding allZero firstOf isDepth imageEnd fieldsOf wellFormed panelOk viewWidth viewHeight wholeDwords mainImage windowImage lineOk imageOk windowOk windowWhole fieldRows screenRows viewPixel inWindow windowPixel sheetPixel sheetShows showRows showing
 showings = refl
 
 pub show-order : showing 24 [] 8 0 [] .number ∷ showing 24 [] 8 0 old .number ∷ showing 24 (screen 8) 0 2 old .number ∷ []
     ≡ 18 ∷ 1 ∷ 24 ∷ []
-unfolding allZero firstOf isDepth imageEnd fieldsOf wellFormed panelOk viewWidth viewHeight wholeDwords mainImage windowImage imageOk windowOk windowWhole fieldRows screenRows showRows showing
+unfolding allZero firstOf isDepth imageEnd fieldsOf wellFormed panelOk viewWidth viewHeight wholeDwords mainImage windowImage lineOk imageOk windowOk windowWhole fieldRows screenRows showRows showing
 show-order = refl

@@ -58,7 +58,7 @@ record-numbered m c i (r ∷ rs) = numbered-append (rowsAt i (admitRows m c r)) 
 -- ---- rows that name no place
 screen-placeless : (m : ℕ) (bytes : List ℕ) → Placeless (screenRows m bytes)
 unfolding Placeless screenRows fieldRows
-screen-placeless m bytes = (refl, (refl, (refl, (refl, (refl, (refl, (refl, (refl, (refl, tt)))))))))
+screen-placeless m bytes = (refl, (refl, (refl, (refl, (refl, (refl, (refl, (refl, (refl, (refl, (refl, tt)))))))))))
 
 list-placeless : (size : ℕ) (s : Screen) (list : List ℕ) → Placeless (listRows size s list)
 unfolding Placeless listRows

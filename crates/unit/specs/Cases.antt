@@ -1,10 +1,10 @@
--- 01's cases S1 to S9 and B1 to B3 (01, "Cases") as one list.
+-- 01's cases S1 to S9 and B1 to B3 (01, "Cases") and those of line lengths (02, c) as one list.
 use Prim.Native.Nat.{ℕ}
 use mathlib.Core.List.{List, [], _∷_, _++_}
 use lib.ListN.{take, drop}
 use Rattle.record.specs.Record.{recordsOf}
 use Rattle.record.specs.declared.Record.{Record}
-use Rattle.screen.specs.Cases.{Case, case, screenCases, plain}
+use Rattle.screen.specs.Cases.{Case, case, screenCases, lineCases, lined, plain}
 use Rattle.screen.specs.Screen.{memorySize, fieldsOf}
 use Rattle.command.specs.Command.{commandBytes}
 use Rattle.command.specs.Task.{task, commandsIn}
@@ -52,6 +52,12 @@ drawCases =
     ∷ 0x40 ∷ 0 ∷ 0x44 ∷ 0x50 ∷ 0x50 ∷ 0 ∷ 0x54 ∷ 0 ∷ 0x58 ∷ 0 ∷ 0x5C ∷ 0
     ∷ 0x8008 ∷ 0x0C ∷ 0x800C ∷ 0 ∷ 0x8010 ∷ 0x190A ∷ 0x8014 ∷ 0xA0 ∷ 0x8018 ∷ 0x63 ∷ 0x801C ∷ 0x95 ∷ 0x8020 ∷ 0 ∷ 0x8024 ∷ 1 ∷ 0x8000 ∷ 1
     ∷ [])
+    -- B1 on lines of 640 pixels: the offset is A0h dwords, the memory offset 140h words, the first address 20 × 640 + 10
+    ∷ case (compiled (lined 8 0 320 240 0 640) (command 0 0 10 20 100 150 0 0 1))
+    (0 ∷ 120
+    ∷ 0x40 ∷ 0 ∷ 0x44 ∷ 0xA0 ∷ 0x50 ∷ 0 ∷ 0x54 ∷ 0 ∷ 0x58 ∷ 0 ∷ 0x5C ∷ 0
+    ∷ 0x8008 ∷ 0x0C ∷ 0x800C ∷ 0 ∷ 0x8010 ∷ 0x320A ∷ 0x8014 ∷ 0x140 ∷ 0x8018 ∷ 0x63 ∷ 0x801C ∷ 0x95 ∷ 0x8020 ∷ 0 ∷ 0x8024 ∷ 1 ∷ 0x8000 ∷ 1
+    ∷ [])
     -- B2: addresses 6 and 7, negative (operation 3)
     ∷ case (moved 0 1)
     (0 ∷ 0
@@ -69,4 +75,4 @@ drawCases =
     ∷ []
 
 unfoldable pub cases : List Case
-cases = screenCases ++ drawCases
+cases = screenCases ++ lineCases ++ drawCases

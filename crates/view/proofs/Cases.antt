@@ -60,7 +60,7 @@ looks = refl
 -- the bits before the pixel that an upright screen of depth 4 shows at (10, 4), a window of 16 by 2 at (8, 3) with its image at byte 40,000 over it or not
 abbrev screen : ℕ → Screen
 screen flag =
-    record { depth = 4; rotation = 0; flag = flag; width = 320; height = 240; base = 100; window = record { base = 40000; x = 8; y = 3; width = 16; height = 2 } }
+    record { depth = 4; rotation = 0; flag = flag; width = 320; height = 240; base = 100; line = 0; window = record { base = 40000; x = 8; y = 3; width = 16; height = 2; line = 0 } }
 
 pub bits : shownBit (screen 1) 10 4 ∷ shownBit (screen 0) 10 4 ∷ shownBit (screen 1) 24 4 ∷ shownBit (screen 1) 10 5 ∷ []
     ≡ 320072 ∷ 5960 ∷ 6016 ∷ 7240 ∷ []

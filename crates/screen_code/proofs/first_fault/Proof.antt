@@ -1,4 +1,3 @@
-use mathlib.Core.Path.{_≡_, _∙_}
 use Rattle.record.specs.Checks.{firstOf, rowsWith}
 use Rattle.screen.specs.Screen.{fieldRows}
 use borrow.Author.Needs.{needs}
@@ -35,6 +34,9 @@ cast-is-whole-2 c = search needs
 is-whole-requires : tie.Need-is-whole-requires
 is-whole-requires c κs = search needs
 
+is-line-requires : tie.Need-is-line-requires
+is-line-requires c κs = search needs
+
 is-image-requires : tie.Need-is-image-requires
 is-image-requires c κs = search needs
 
@@ -43,6 +45,9 @@ is-window-requires c κs = search needs
 
 is-window-whole-requires : tie.Need-is-window-whole-requires
 is-window-whole-requires c κs = search needs
+
+is-line-requires-2 : tie.Need-is-line-requires-2
+is-line-requires-2 c κs = search needs
 
 is-image-requires-2 : tie.Need-is-image-requires-2
 is-image-requires-2 c κs = search needs
@@ -56,12 +61,9 @@ slice-aggregate-first-of-2 c = search needs
 first-of-requires : tie.Need-first-of-requires
 first-of-requires c κs = search needs
 
--- the rows hold what the checks found
 returns : tie.Need-returns
 unfolding fieldRows rowsWith
-returns c =
-    c .first-of .ensures
-    ∙ cc
+returns c = simp (c .first-of .ensures, c .before .before .before .is-image2 .ensures, c .before .before .before .before .is-line2 .ensures, c .before .before .before .before .before .is-window-whole .ensures, c .before .before .before .before .before .before .is-window .ensures, c .before .before .before .before .before .before .before .is-image .ensures, c .before .before .before .before .before .before .before .before .is-line .ensures, c .before .before .before .before .before .before .before .before .before .is-whole .ensures, c .before .before .before .before .before .before .before .before .before .before .before .before .is-panel .ensures, c .before .before .before .before .before .before .before .before .before .before .before .before .before .before .before .before .is-depth .ensures, c .before .before .before .before .before .before .before .before .before .before .before .before .before .before .before .before .before .before .before .before .window-image .ensures, c .before .before .before .before .before .before .before .before .before .before .before .before .before .before .before .before .before .before .before .before .before .main-image .ensures)
 
 pub first-fault-spec : {M : Type 1} → statement M
 first-fault-spec =
@@ -77,9 +79,11 @@ first-fault-spec =
     cast-is-whole
     cast-is-whole-2
     is-whole-requires
+    is-line-requires
     is-image-requires
     is-window-requires
     is-window-whole-requires
+    is-line-requires-2
     is-image-requires-2
     slice-aggregate-first-of
     slice-aggregate-first-of-2

@@ -1,6 +1,6 @@
 use borrow.Author.Tests.{eq-eqb, ne-eqb}
-use borrow.Author.Needs.{needs}
 use Rattle.screen.specs.Screen.{wellFormed}
+use borrow.Author.Needs.{needs}
 use Rattle.screen_code.proofs.is_well_formed.Statement.{statement}
 use Rattle.screen_code.proofs.is_well_formed.Tie as tie
 
@@ -32,6 +32,18 @@ part-all-zero-end-2 c = search needs
 all-zero-requires-2 : tie.Need-all-zero-requires-2
 all-zero-requires-2 c κs = search needs
 
+sub-all-zero-3 : tie.Need-sub-all-zero-3
+sub-all-zero-3 c = search needs
+
+part-all-zero-start-3 : tie.Need-part-all-zero-start-3
+part-all-zero-start-3 c = search needs
+
+part-all-zero-end-3 : tie.Need-part-all-zero-end-3
+part-all-zero-end-3 c = search needs
+
+all-zero-requires-3 : tie.Need-all-zero-requires-3
+all-zero-requires-3 c κs = search needs
+
 shared-slice-read-result : tie.Need-shared-slice-read-result
 shared-slice-read-result c = search needs
 
@@ -43,7 +55,7 @@ shared-slice-read-result-3 c = search needs
 
 returns-2 : tie.Need-returns-2
 unfolding wellFormed
-returns-2 c = simp (eq-eqb _ _ (c .before .before .before .before .before .before .before .if1 .left), c .before .before .before .all-zero2 .ensures, c .before .before .before .before .before .all-zero .ensures)
+returns-2 c = simp (eq-eqb _ _ (c .before .before .before .before .before .before .before .before .before .if1 .left), c .before .before .before .all-zero3 .ensures, c .before .before .before .before .before .all-zero2 .ensures, c .before .before .before .before .before .before .before .all-zero .ensures)
 
 pub is-well-formed-spec : {M : Type 1} → statement M
 is-well-formed-spec =
@@ -58,6 +70,10 @@ is-well-formed-spec =
     part-all-zero-start-2
     part-all-zero-end-2
     all-zero-requires-2
+    sub-all-zero-3
+    part-all-zero-start-3
+    part-all-zero-end-3
+    all-zero-requires-3
     shared-slice-read-result
     shared-slice-read-result-2
     shared-slice-read-result-3

@@ -1,8 +1,8 @@
 use Prim.Native.Nat.{ℕ, _<_}
 use native.Mathlib.Omega.{arith}
-use borrow.Author.Needs.{needs}
 use Rattle.screen.specs.Screen.{mainImage, viewWidth, viewHeight}
 use Rattle.screen.proofs.View.{view-sides}
+use borrow.Author.Needs.{needs}
 use Rattle.screen_code.proofs.main_image.Statement.{statement}
 use Rattle.screen_code.proofs.main_image.Tie as tie
 
@@ -40,12 +40,15 @@ view-height-requires c κs = search needs
 cast-height : tie.Need-cast-height
 cast-height c = omega (arith, c .view-height .ensures, below (c .before .before .before .before .before .before .before .before .args .s .rotation) (c .before .before .before .before .before .before .before .before .args .s .width) (c .before .before .before .before .before .before .before .before .args .s .height) (omega arith) (omega arith))
 
+line-pixels-requires : tie.Need-line-pixels-requires
+line-pixels-requires c κs = search needs
+
 line-bytes-requires : tie.Need-line-bytes-requires
 line-bytes-requires c κs = search needs
 
 returns : tie.Need-returns
 unfolding mainImage
-returns c = simp (c .line-bytes .ensures, c .before .view-height .ensures, c .before .before .before .before .before .view-width .ensures)
+returns c = simp (c .line-bytes .ensures, c .before .line-pixels .ensures, c .before .before .view-height .ensures, c .before .before .before .before .before .before .view-width .ensures)
 
 pub main-image-spec : {M : Type 1} → statement M
 main-image-spec =
@@ -61,5 +64,6 @@ main-image-spec =
     cast-view-height-3
     view-height-requires
     cast-height
+    line-pixels-requires
     line-bytes-requires
     returns)
