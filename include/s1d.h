@@ -55,9 +55,15 @@ enum s1d_raster {
     S1D_OR = 0xE
 };
 
-/* Refusals. The first whose text holds is given, in the order of the numbers, but that commands (12
- * to 15) and stream records (20 to 23) are checked one after another; s1d_read_point, s1d_draw, s1d_feed
- * and s1d_end name their own order. 7 to 9 apply with flag 1 only.
+/* A screen record, numbers with the low byte first: 0 depth; 1 rotation; 2 flag; 4-5 panel width; 6-7
+ * panel height; 8-11 main base; 12-15 window base; 16-17 window x; 18-19 y; 20-21 width; 22-23 height;
+ * 24-25 main line length and 26-27 window line length in pixels, 0 meaning the shown width. Bytes 3 and
+ * 28-31 are zero, and with flag 0 bytes 12-23 and 26-27.
+ *
+ * Refusals. The first whose text holds is given, in the order of the numbers, but that 26 is checked
+ * after 5 for main and after 8 for the window, and that commands (12 to 15) and stream records (20 to
+ * 23) are checked one after another; s1d_read_point, s1d_draw, s1d_feed and s1d_end name their own
+ * order. 7 to 9, and 26 for the window, apply with flag 1 only.
  *
  * place is the command's index for 12 to 15, the stream record's for 20 to 23, else 0. Both count
  * from 0. */
@@ -68,10 +74,10 @@ enum s1d_refusal {
     S1D_ROTATION = 3,           /* rotation above 3 */
     S1D_PANEL_SIZE = 4,         /* panel width not a multiple of 8 in 8 to 1024, or height not 1 to 1024 */
     S1D_VIEW_WIDTH = 5,         /* view width not a multiple of 32 / depth */
-    S1D_MAIN_IMAGE = 6,         /* main base not a multiple of 4, or its image ends past byte 262144 */
+    S1D_MAIN_IMAGE = 6,         /* main base not a multiple of 4, or its last shown pixel past byte 262144 */
     S1D_WINDOW_PLACE = 7,       /* window width or height 0, or window outside the view */
     S1D_WINDOW_DWORDS = 8,      /* window x or width not a multiple of 32 / depth */
-    S1D_WINDOW_IMAGE = 9,       /* window base not a multiple of 4, or its image ends past byte 262144 */
+    S1D_WINDOW_IMAGE = 9,       /* as 6, for the window */
     S1D_LIST_FORM = 10,         /* list not a multiple of 32 bytes, or over 64 commands */
     S1D_LIST_DEPTH = 11,        /* a command is present and depth is below 8 */
     S1D_COMMAND_FORM = 12,      /* operation above 2, no such surface, raster code above 15, colour above 255 at
@@ -90,6 +96,8 @@ enum s1d_refusal {
                                    is due (at the end, place is the number of records) */
     S1D_POINT_OUTSIDE = 24,     /* panel point outside the panel */
     S1D_POINT_ADDRESS = 25,     /* the point's dword address outside 0 to 65535 */
+    S1D_LINE_LENGTH = 26,       /* a line length other than 0 below the shown width, not a multiple of
+                                   32 / depth, or over 1023 dwords */
     S1D_BLOCK_FORM = 32         /* block over 64 bytes */
 };
 
@@ -153,7 +161,7 @@ typedef struct s1d_drawn {
 /* Compiles a screen record and a list of commands into a stream. words are the pixels of the writes,
  * in order. The answer has the stream's length and the depth, rotation and flag for the settings
  * register; bytes past the stream keep their contents. S1D_STREAM_LENGTH of the list's commands and
- * of words_length is room enough. Refusals 1 to 17. */
+ * of words_length is room enough. Refusals 1 to 17, and 26. */
 s1d_compiled s1d_compile(const uint8_t *screen, size_t screen_length,
                          const uint8_t *list, size_t list_length,
                          const uint16_t *words, size_t words_length,
@@ -196,7 +204,7 @@ s1d_point s1d_read_point(uint32_t depth, uint32_t rotation, uint32_t flag,
                          const uint8_t *memory, size_t memory_length);
 
 /* Compiles, then plays the stream: stream and memory as s1d_compile and s1d_play leave them, or both
- * as they were. Refusals 18, then 1 to 17. */
+ * as they were. Refusals 18, then as s1d_compile. */
 s1d_drawn s1d_draw(const uint8_t *screen, size_t screen_length,
                    const uint8_t *list, size_t list_length,
                    const uint16_t *words, size_t words_length,

@@ -1,4 +1,4 @@
--- A task without a refusal of 1 to 16, and where a refusal stands.
+-- A task without a refusal of 1 to 16 and 26, and where a refusal stands.
 use Prim.Native.Nat.{ℕ, _*_, _/_, _%_, _<_, _≤_}
 use mathlib.Core.Path.{_≡_, refl, sym, _∙_}
 use mathlib.Core.List.{List, _++_}
@@ -68,7 +68,7 @@ module _ (m : ℕ) (t : Task) where
       unfolding taskRefusal
       by-end d = rw (first-is, f, d)
 
--- ---- none of 1 to 16
+-- ---- none of 1 to 16 and 26
 pub record Accepted (m : ℕ) (t : Task) : Type 0 where
   pub number : taskRefusal m t .number ≡ 0
   pub screen : firstOf (screenRows m (t .screen)) ≡ 0

@@ -1,4 +1,4 @@
--- Cases by computation: tasks, with the first refusal of 1 to 16 and its place.
+-- Cases by computation: tasks, with the first refusal of 1 to 16 and 26, and its place.
 use Prim.Native.Nat.{ℕ, zero, suc}
 use mathlib.Core.Path.{_≡_, refl}
 use mathlib.Core.List.{List, [], _∷_, _++_, map}
@@ -11,7 +11,7 @@ use Rattle.pixel.specs.Depth.{isDepth}
 use Rattle.screen.specs.Image.{imageEnd, startOf}
 use Rattle.screen.specs.Screen.{memorySize, fieldsOf, wellFormed, panelOk, viewWidth, viewHeight, wholeDwords, mainImage, windowImage, lineOk, imageOk, windowOk, windowWhole, fieldRows, screenRows}
 use Rattle.screen.specs.Values.{windowX, windowY, originOf, valuesOf}
-use Rattle.screen.specs.Cases.{plain}
+use Rattle.screen.specs.Cases.{lined, plain}
 use Rattle.command.specs.Command.{commandOf, surfaceOf, mustBeZero, formed, insideImage, placed, lineWords, wordsTaken, commandRows, refusal}
 use Rattle.command.specs.Task.{Task, task, listRows, firstRefusal, allWords, wordRows, taskRefusal, isAccepted}
 
@@ -43,6 +43,13 @@ empty = 0 ∷ 0 ∷ 0 ∷ 0 ∷ 10 ∷ 0 ∷ 20 ∷ 0 ∷ 0 ∷ 0 ∷ 150 ∷ 0 
 abbrev pub outside : List ℕ
 outside = 0 ∷ 0 ∷ 0 ∷ 0 ∷ 10 ∷ 0 ∷ 91 ∷ 0 ∷ 100 ∷ 0 ∷ 150 ∷ 0 ∷ replicate 20 0
 
+-- lines of 640 pixels, of which 320 are shown, and a fill that ends ten pixels past these
+abbrev long : List ℕ
+long = lined 8 0 320 240 0 640
+
+abbrev past : List ℕ
+past = 0 ∷ 0 ∷ 0 ∷ 0 ∷ 230 ∷ 0 ∷ 20 ∷ 0 ∷ 100 ∷ 0 ∷ 150 ∷ 0 ∷ replicate 20 0
+
 abbrev pub times : ℕ → List ℕ → List ℕ
 times zero l = []
 times (suc n) l = l ++ times n l
@@ -54,7 +61,7 @@ abbrev refused : ℕ → ℕ → Refusal
 refused n i = record { number = n; place = i }
 
 -- accepted: a screen alone, two writes with their words, 64 commands. Then 1, 9 before 10, 10 before 11, 65 commands, 11 before 12, 12
--- before 16, 14 before a later 12, 15 by the words that are left, 16
+-- before 16, 14 before a later 12, 15 by the words that are left, 16. Then long lines: accepted, 14 past what is shown, 26 before 10
 abbrev tasks : List Task
 tasks =
     task (panel 1) [] []
@@ -69,10 +76,16 @@ tasks =
     ∷ task (panel 8) (fill ++ outside ++ strange) []
     ∷ task (panel 8) (write ++ fill ++ write) (0 ∷ fourWords)
     ∷ task (panel 8) (fill ++ write) (0 ∷ fourWords)
+    ∷ task long fill []
+    ∷ task long (fill ++ past) []
+    ∷ task (lined 8 0 320 240 0 8) (0 ∷ fill) []
     ∷ []
 
 abbrev refusals : List Refusal
-refusals = refused 0 0 ∷ refused 0 0 ∷ refused 0 0 ∷ refused 1 0 ∷ refused 9 0 ∷ refused 10 0 ∷ refused 10 0 ∷ refused 11 0 ∷ refused 12 1 ∷ refused 14 1 ∷ refused 15 2 ∷ refused 16 0 ∷ []
+refusals =
+    refused 0 0 ∷ refused 0 0 ∷ refused 0 0 ∷ refused 1 0 ∷ refused 9 0 ∷ refused 10 0 ∷ refused 10 0 ∷ refused 11 0 ∷ refused 12 1 ∷ refused 14 1 ∷ refused 15 2 ∷ refused 16 0
+    ∷ refused 0 0 ∷ refused 14 1 ∷ refused 26 0
+    ∷ []
 
 pub tasks-hold : map (taskRefusal memorySize) tasks ≡ refusals
 unfolding allZero firstOf partsFrom partsOf isDepth imageEnd startOf fieldsOf wellFormed panelOk viewWidth viewHeight wholeDwords mainImage windowImage lineOk imageOk windowOk windowWhole fieldRows screenRows windowX windowY originOf valuesOf commandOf surfaceOf mustBeZero formed insideImage placed lineWords wordsTaken commandRows refusal listRows firstRefusal allWords wordRows taskRefusal

@@ -1,4 +1,4 @@
--- What compiling is given, and its refusals 1 to 16 (01, "Refusal numbers": "Compiling checks 1 to 11, then 12 to 15 command by
+-- What compiling is given, and its refusals 1 to 16 and 26 (01, "Refusal numbers": "Compiling checks 1 to 11, then 12 to 15 command by
 -- command, then 16, 17"). The last, 17, is asked where there is a stream buffer.
 use Prim.Native.Nat.{ℕ, suc, _+_, _-_, _*_, _%_}
 use mathlib.Core.List.{List, [], _∷_, _++_}
@@ -58,7 +58,7 @@ allWords s (b ∷ bs) = wordsTaken s (commandOf b) + allWords s bs
 unfoldable pub wordRows : Task → List Row
 wordRows t = row 16 (ltb (allWords (screenIn t) (commandsIn t)) (length (t .words))) ∷ []
 
--- the first refusal of 1 to 16, the memory being m bytes
+-- the first refusal of 1 to 16 and 26, the memory being m bytes
 unfoldable pub taskRefusal : ℕ → Task → Refusal
 taskRefusal m t =
     let first = firstOf (screenRows m (t .screen) ++ listRows (t .size) (screenIn t) (t .list)) in
@@ -67,6 +67,6 @@ taskRefusal m t =
     (cond (not (eqb (inList .number) 0)) inList
     (record { number = firstOf (wordRows t); place = 0 }))
 
--- none of 1 to 16 is given
+-- none of 1 to 16 and 26 is given
 abbrev pub isAccepted : ℕ → Task → Bool
 isAccepted m t = eqb (taskRefusal m t .number) 0

@@ -16,10 +16,14 @@ first-reason : reason 1 ≡ letters "screen record not 32 bytes, flag above 1, o
 unfolding reason
 first-reason = refl
 
-last-reason : reason 25 ≡ letters "dword address outside 0 to 65535"
+point-reason : reason 25 ≡ letters "dword address outside 0 to 65535"
+unfolding reason
+point-reason = refl
+
+last-reason : reason 26 ≡ letters "line length below the shown width, not a multiple of 32 / depth, or over 1023 dwords"
 unfolding reason
 last-reason = refl
 
-no-reason : reason 26 ≡ []
+no-reason : reason 27 ≡ []
 unfolding reason
 no-reason = refl

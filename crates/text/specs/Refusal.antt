@@ -5,7 +5,7 @@ use mathlib.Core.List.{List, [], _∷_, _++_}
 use lib.ListN.{getD}
 use Rattle.text.specs.Text.{letters, decimal}
 
--- why 0, 1 and so on are given (01, "Refusal numbers")
+-- why 0, 1 and so on are given (01, "Refusal numbers"; 02, c)
 abbrev pub reasons : List String
 reasons =
     "accepted"
@@ -34,9 +34,10 @@ reasons =
     ∷ "data word when none is due, or none when one is due"
     ∷ "panel point outside the panel"
     ∷ "dword address outside 0 to 65535"
+    ∷ "line length below the shown width, not a multiple of 32 / depth, or over 1023 dwords"
     ∷ []
 
--- the reason of a number; none for one that 01 does not have
+-- the reason of a number; none for one that is not given
 unfoldable pub reason : ℕ → List ℕ
 reason n = letters (getD reasons n "")
 

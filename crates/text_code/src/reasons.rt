@@ -1,7 +1,7 @@
 // The reasons of the refusals.
 
 // The reason of 0, of 1 and so on, a line each.
-pub const REASONS: [u8; 1039] = *b"accepted
+pub const REASONS: [u8; 1124] = *b"accepted
 screen record not 32 bytes, flag above 1, or a spare byte not zero
 depth not 1, 2, 4, 8 or 16
 rotation above 3
@@ -27,10 +27,11 @@ blit outside the memory
 data word when none is due, or none when one is due
 panel point outside the panel
 dword address outside 0 to 65535
+line length below the shown width, not a multiple of 32 / depth, or over 1023 dwords
 ";
 
 // Where each line begins, and where the last one ends.
-pub const STARTS: [usize; 27] = [
+pub const STARTS: [usize; 28] = [
     0,
     9,
     76,
@@ -58,4 +59,5 @@ pub const STARTS: [usize; 27] = [
     976,
     1006,
     1039,
+    1124,
 ];

@@ -58,7 +58,7 @@ surface m d k i deep a narrow low ends =
     }
 
 module _ (m : ℕ) (s : Screen) (e : firstOf (fieldRows m s) ≡ 0) (flag : s .flag ≤ 1) (deep : 8 ≤ s .depth) where
-  bytes : s .depth ≡ 8 * (s .depth / 8)
+  pub bytes : s .depth ≡ 8 * (s .depth / 8)
   bytes = whole-bytes (s .depth) (accepted m s e .depth) deep .0
 
   main-surface : Surface m (s .depth / 8) (mainImage s)

@@ -13,5 +13,6 @@ pub mod Listed
 pub mod Points
 pub mod Whole
 pub mod Demands
+pub mod Kept
 pub mod Draw
 pub mod Show

@@ -18,7 +18,7 @@ whole-units u q r n h e =
 pub rest-units : (u q r n : ℕ) → r < u → n ≡ q * u + r → n % u ≡ r
 rest-units u q r n h e = ap (λ (k : ℕ). k % u) e ∙ mul-add-mod-self-right q u r ∙ mod-eq-of-lt h
 
-both : (a b c : Bool) → a ≡ true → b ≡ true → c ≡ true → (a && (b && c)) ≡ true
+pub both : (a b c : Bool) → a ≡ true → b ≡ true → c ≡ true → (a && (b && c)) ≡ true
 both a b c p q r = rw (p, q, r)
 
 -- two tests that each imply the other
@@ -93,7 +93,7 @@ module _ (g : Frame) (a : ℕ) (some : 0 < g .bytes) (room : (g .x + g .width) *
     pub surface-line : (a - g .base) / g .line ≡ g .y + p .j
     surface-line = whole-units (g .line) (g .y + p .j) ((g .x + p .i) * g .bytes + p .k) (a - g .base) within surface
 
-    surface-rest : (a - g .base) % g .line ≡ (g .x + p .i) * g .bytes + p .k
+    pub surface-rest : (a - g .base) % g .line ≡ (g .x + p .i) * g .bytes + p .k
     surface-rest = rest-units (g .line) (g .y + p .j) ((g .x + p .i) * g .bytes + p .k) (a - g .base) within surface
 
     pub surface-column : (a - g .base) % g .line / g .bytes ≡ g .x + p .i

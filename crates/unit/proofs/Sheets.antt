@@ -2,6 +2,7 @@
 use Prim.Native.Nat.{ℕ, _+_}
 use mathlib.Core.Path.{_≡_, refl}
 use mathlib.Core.List.{List, [], _∷_, _++_, map}
+use mathlib.Core.Bool.{Bool, cond}
 use lib.ListN.{take, replicate, set}
 use Rattle.record.specs.Bytes.{twoBytes, fourBytes, allZero}
 use Rattle.record.specs.Checks.{firstOf}
@@ -21,6 +22,7 @@ use Rattle.compiler.specs.Stream.{recordsWith, screenRecords, dataRecords, comm
 use Rattle.command.specs.Task.{task, listRows, firstRefusal, allWords, wordRows, taskRefusal}
 use Rattle.compiler.specs.Compile.{roomRows, refusalOf, compiling, streamOf, bufferAfter}
 use Rattle.unit.specs.Sheet.{sheetPixel, hostPixel, sheetSource, sheetMix, newPixel, changes, sheetByte, sheetCommand, sheetCommands, sheetAfter, sheetShows}
+use Rattle.unit.specs.Kept.{isShown, inGap, outside}
 use Rattle.unit.specs.Draw.{drawing, memoryDrawn, streamDrawn, drawingOf, answerOf, showRows, showing}
 use Rattle.unit.specs.Cases.{command}
 use Rattle.unit.specs.declared.Drawn.the-variants.{Accepted, Refused}
@@ -85,6 +87,42 @@ pub written-wide : drawn 16 (command 2 0xC 3 0 2 1 0 0 0) (0x6261 ∷ 0x6463 ∷
 unfolding byteOf bitwise fieldsOf viewWidth viewHeight mainImage windowImage commandOf commandBytes surfaceOf lineWords wordsTaken partsFrom partsOf sheetPixel hostPixel sheetSource sheetMix newPixel changes sheetByte sheetCommand sheetCommands
 written-wide = refl
 
+-- ---- lines longer than what is shown: 12 pixels each on the same screen, the window from byte 8 on in the main image's gap
+abbrev wide : ℕ → List ℕ
+wide rotation = 8 ∷ rotation ∷ 1 ∷ 0 ∷ twoBytes 8 ++ twoBytes 2 ++ fourBytes 0 ++ fourBytes 8 ++ twoBytes 4 ++ twoBytes 0 ++ twoBytes 4 ++ twoBytes 2 ++ twoBytes 12 ++ twoBytes 12 ++ fourBytes 0
+
+abbrev interlaced : List ℕ
+interlaced = 99 ∷ 99 ∷ 99 ∷ 99 ∷ 99 ∷ 99 ∷ 99 ∷ 99 ∷ 9 ∷ 21 ∷ 22 ∷ 23 ∷ 99 ∷ 99 ∷ 99 ∷ 99 ∷ 99 ∷ 99 ∷ 99 ∷ 99 ∷ 21 ∷ 22 ∷ 23 ∷ 24 ∷ []
+
+-- a fill of the whole main image, and a move within the window, of 3 by 1 from (0, 1) to (1, 0): each keeps to its own
+pub gaps-kept : sheetCommands (fieldsOf (wide 0)) (partsOf 32 (command 0 0 0 0 8 2 0 0 99 ++ on-window (command 1 0xC 1 0 3 1 0 1 0))) [] old ≡ interlaced
+unfolding byteOf bitwise fieldsOf viewWidth viewHeight mainImage windowImage commandOf commandBytes surfaceOf lineWords wordsTaken partsFrom partsOf sheetPixel hostPixel sheetSource sheetMix newPixel changes sheetByte sheetCommand sheetCommands
+gaps-kept = refl
+
+-- which bytes are shown, and which lie between shown width and line length: an image of 2 by 2 from byte 1 on, lines of 3 bytes
+abbrev whether : Bool → ℕ
+whether b = cond b 1 0
+
+abbrev short : Image
+short = record { base = 1; line = 3; width = 2; height = 2 }
+
+pub shown-bytes : map (λ a. whether (isShown 8 short a)) (0 ∷ 1 ∷ 2 ∷ 3 ∷ 4 ∷ 5 ∷ 6 ∷ 7 ∷ [])
+    ++ map (λ a. whether (inGap 8 short a)) (0 ∷ 1 ∷ 2 ∷ 3 ∷ 4 ∷ 5 ∷ 6 ∷ 7 ∷ 9 ∷ [])
+    ≡ 0 ∷ 1 ∷ 1 ∷ 0 ∷ 1 ∷ 1 ∷ 0 ∷ 0
+    ∷ 0 ∷ 0 ∷ 0 ∷ 1 ∷ 0 ∷ 0 ∷ 1 ∷ 0 ∷ 0
+    ∷ []
+unfolding isShown inGap
+shown-bytes = refl
+
+-- bytes that the main image alone, the window alone and neither shows, for a list on main, on the window, and on both
+abbrev apart : List ℕ → List ℕ
+apart list = map (λ a. whether (outside (fieldsOf (wide 0)) (partsOf 32 list) a)) (0 ∷ 8 ∷ 24 ∷ [])
+
+pub outsides : apart (command 0 0 0 0 8 2 0 0 99) ++ apart (on-window (command 0 0 0 0 4 2 0 0 99)) ++ apart (command 0 0 0 0 8 2 0 0 99 ++ on-window (command 0 0 0 0 4 2 0 0 99))
+    ≡ 0 ∷ 1 ∷ 1 ∷ 1 ∷ 0 ∷ 1 ∷ 0 ∷ 0 ∷ 1 ∷ []
+unfolding fieldsOf viewWidth viewHeight mainImage windowImage commandOf commandBytes surfaceOf partsFrom partsOf isShown outside
+outsides = refl
+
 -- ---- drawing and showing, the memory being those 24 bytes
 
 abbrev draws : List ℕ → List ℕ → ℕ → List ℕ → List ℕ
@@ -124,6 +162,18 @@ pub showings : map (λ p. shows p 1) (0 ∷ 3 ∷ 4 ∷ 7 ∷ 8 ∷ [])
     ≡ (0 ∷ 0 ∷ 9 ∷ []) ∷ (0 ∷ 0 ∷ 12 ∷ []) ∷ (0 ∷ 0 ∷ 21 ∷ []) ∷ (0 ∷ 0 ∷ 24 ∷ []) ∷ (24 ∷ 0 ∷ 0 ∷ []) ∷ []
 unfolding allZero firstOf isDepth imageEnd fieldsOf wellFormed panelOk viewWidth viewHeight wholeDwords mainImage windowImage lineOk imageOk windowOk windowWhole fieldRows screenRows viewPixel inWindow windowPixel sheetPixel sheetShows showRows showing
 showings = refl
+
+-- the lines of 12 pixels, upright and turned by 180 degrees: a line of the panel's, then the other's first and last points
+abbrev wide-shows : ℕ → ℕ → ℕ → ℕ
+wide-shows rotation q p = let r = showing 24 (wide rotation) p q interlaced in r .colour
+
+pub wide-showings : map (wide-shows 0 1) (0 ∷ 1 ∷ 2 ∷ 3 ∷ 4 ∷ 5 ∷ 6 ∷ 7 ∷ []) ++ map (wide-shows 0 0) (0 ∷ 4 ∷ 7 ∷ [])
+    ++ map (wide-shows 2 0) (0 ∷ 1 ∷ 2 ∷ 3 ∷ 4 ∷ 5 ∷ 6 ∷ 7 ∷ []) ++ map (wide-shows 2 1) (0 ∷ 3 ∷ 7 ∷ [])
+    ≡ 99 ∷ 99 ∷ 99 ∷ 99 ∷ 21 ∷ 22 ∷ 23 ∷ 24 ∷ 99 ∷ 9 ∷ 23
+    ∷ 24 ∷ 23 ∷ 22 ∷ 21 ∷ 99 ∷ 99 ∷ 99 ∷ 99 ∷ 23 ∷ 9 ∷ 99
+    ∷ []
+unfolding allZero firstOf isDepth imageEnd fieldsOf wellFormed panelOk viewWidth viewHeight wholeDwords mainImage windowImage lineOk imageOk windowOk windowWhole fieldRows screenRows viewPixel inWindow windowPixel sheetPixel sheetShows showRows showing
+wide-showings = refl
 
 pub show-order : showing 24 [] 8 0 [] .number ∷ showing 24 [] 8 0 old .number ∷ showing 24 (screen 8) 0 2 old .number ∷ []
     ≡ 18 ∷ 1 ∷ 24 ∷ []

@@ -3,3 +3,4 @@ pub mod Cases
 pub mod Tables
 pub mod Draw
 pub mod Demands
+pub mod Kept
