@@ -33,7 +33,7 @@ pub record Aligned (k d : ℕ) (i : Image) : Type 0 where
   pub room : m ≤ l
   pub short : l ≤ 1023
 
-whole-is : (k n : ℕ) → n % k ≡ 0 → n ≡ k * (n / k)
+pub whole-is : (k n : ℕ) → n % k ≡ 0 → n ≡ k * (n / k)
 whole-is k n h = omega (arith, div-add-mod n k)
 
 some : (k n t : ℕ) → 0 < n → n ≡ k * t → 0 < t

@@ -7,16 +7,16 @@ use native.Mathlib.Omega.{arith}
 use lib.Dec.{eqb}
 use borrow.Author.Tests.{eq-eqb}
 use Rattle.record.specs.Checks.{firstOf}
-use Rattle.pixel.specs.Depth.{perDword}
+use Rattle.pixel.specs.Depth.{isDepth, perDword}
+use Rattle.pixel.proofs.Depth.{full}
 use Rattle.screen.specs.Image.{lineBytes, linePixels, byRotation, startOf}
-use Rattle.screen.specs.Screen.{mainImage, windowImage, lineOk, windowed, fieldsOf, fieldRows, screenRows}
+use Rattle.screen.specs.Screen.{wholeDwords, mainImage, windowImage, lineOk, windowed, fieldsOf, fieldRows, screenRows}
 use Rattle.screen.specs.Values.{originOf, valuesOf}
 use Rattle.screen.specs.Shown.{shownStart, without, NoLengths, As01, ShownWidths}
 use Rattle.screen.specs.declared.Image.{Image}
 use Rattle.screen.specs.declared.Origin.{Origin}
 use Rattle.screen.specs.declared.Screen.{Screen}
-use Rattle.screen.proofs.Accepted.{Aligned, accepted, main-aligned, window-limits}
-use Rattle.screen.proofs.Starts.{bits, last-line}
+use Rattle.screen.proofs.Accepted.{Aligned, bits-of, whole-is, whole-says, accepted, main-aligned, window-limits}
 use Rattle.screen.proofs.Values.{main-value, window-value}
 
 -- ---- 26 is not given
@@ -42,31 +42,37 @@ refused-as-01 m b z =
     ) refl
 
 -- ---- the starts
-module _ (k d : ℕ) (i : Image) (a : Aligned k d i) (line : i .line ≡ lineBytes d (i .width)) where
-  -- whole dwords: the bytes of n lines are those of their pixels
-  lines : (n : ℕ) → n * i .line ≡ n * i .width * d / 8
-  lines n =
-      let dwords : i .line ≡ 4 * a .m = omega (arith, line, bits k d i a) in
-      omega (arith, ap (λ (x : ℕ). n * x) (bits k d i a), ap (λ (x : ℕ). n * x) dwords)
+-- an image of lines as long as it is wide, n dwords of k pixels
+module _ (k d n : ℕ) (kd : k * d ≡ 32) (i : Image) (width : i .width ≡ k * n) (high : 0 < i .height) (line : i .line ≡ lineBytes d (i .width)) where
+  -- the bytes of l lines are those of their pixels
+  lines : (l : ℕ) → l * i .line ≡ l * i .width * d / 8
+  lines l =
+      let bits = bits-of k d n (i .width) kd width in
+      let dwords : i .line ≡ 4 * n = omega (arith, line, bits) in
+      omega (arith, ap (λ (x : ℕ). l * x) bits, ap (λ (x : ℕ). l * x) dwords)
 
   at-180 : (i .height - 1) * i .line + i .width * d / 8 ≡ i .width * i .height * d / 8
   at-180 =
-      let h : i .height - 1 + 1 ≡ i .height = omega (arith, a .high) in
+      let h : i .height - 1 + 1 ≡ i .height = omega (arith, high) in
       omega (arith, line, lines (i .height), ap (λ (x : ℕ). x * i .line) h)
 
-  pub start-as-01 : (r : ℕ) → startOf r d i ≡ shownStart r d i
+  start-as-01 : (r : ℕ) → startOf r d i ≡ shownStart r d i
   unfolding startOf shownStart
   start-as-01 r =
       let e : (i .base + (i .height - 1) * i .line + i .width * d / 8) / 4 - 1 ≡ (i .base + i .width * i .height * d / 8) / 4 - 1 = omega (arith, at-180) in
       let f : (i .base + (i .height - 1) * i .line) / 4 ≡ (i .base + (i .height - 1) * i .width * d / 8) / 4 = omega (arith, lines (i .height - 1)) in
       rw (e, f) refl
 
+pub starts-as-01 : (r d : ℕ) (i : Image) → isDepth d ≡ true → wholeDwords d (i .width) ≡ true → 0 < i .height → i .line ≡ lineBytes d (i .width) → startOf r d i ≡ shownStart r d i
+starts-as-01 r d i ok whole high line =
+    start-as-01 (perDword d) d (i .width / perDword d) (full d ok) i (whole-is (perDword d) (i .width) (whole-says d (i .width) whole)) high line r
+
 -- ---- the two images
 line-as-shown : (depth given width : ℕ) → given ≡ 0 → lineBytes depth (linePixels given width) ≡ lineBytes depth width
 line-as-shown depth given width e = ap (lineBytes depth) (as-wide given width e)
 
 image-as-01 : (k r d start : ℕ) (i : Image) → Aligned k d i → i .line ≡ lineBytes d (i .width) → start ≡ startOf r d i → As01 r d start i
-image-as-01 k r d start i a line e = record { line = line; start-is = e ∙ start-as-01 k d i a line r }
+image-as-01 k r d start i a line e = record { line = line; start-is = e ∙ start-as-01 k d (a .m) (a .whole) i (a .width-is) (a .high) line r }
 
 module _ (m : ℕ) (s : Screen) (z : NoLengths s) (e : firstOf (fieldRows m s) ≡ 0) where
   main-as-01 : As01 (s .rotation) (s .depth) (valuesOf s .main .start) (mainImage s)
@@ -82,4 +88,4 @@ module _ (m : ℕ) (s : Screen) (z : NoLengths s) (e : firstOf (fieldRows m s) �
       (line-as-shown (s .depth) (s .window .line) (s .window .width) (z .window)) (ap (λ (o : Origin). o .start) (window-value s on))
 
 pub shown-widths : (m : ℕ) → ShownWidths m
-shown-widths m = record { refused = refused-as-01 m; main = main-as-01 m; window = window-as-01 m }
+shown-widths m = record { start = starts-as-01; refused = refused-as-01 m; main = main-as-01 m; window = window-as-01 m }

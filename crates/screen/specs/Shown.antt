@@ -1,12 +1,13 @@
 -- Lines as long as the shown width: 01's own start table (01, "Screen arithmetic"), and what a record whose line lengths are 0 means.
-use Prim.Native.Nat.{ℕ, _+_, _-_, _*_, _/_}
+use Prim.Native.Nat.{ℕ, _+_, _-_, _*_, _/_, _<_}
 use mathlib.Core.Path.{_≡_}
-use mathlib.Core.Bool.{cond}
+use mathlib.Core.Bool.{true, cond}
 use mathlib.Core.List.{List, [], _∷_}
 use lib.Dec.{eqb}
 use Rattle.record.specs.Checks.{Row, firstOf}
-use Rattle.screen.specs.Image.{lineBytes, byRotation}
-use Rattle.screen.specs.Screen.{mainImage, windowImage, fieldsOf, fieldRows, screenRows}
+use Rattle.pixel.specs.Depth.{isDepth}
+use Rattle.screen.specs.Image.{lineBytes, byRotation, startOf}
+use Rattle.screen.specs.Screen.{wholeDwords, mainImage, windowImage, fieldsOf, fieldRows, screenRows}
 use Rattle.screen.specs.Values.{valuesOf}
 use Rattle.screen.specs.declared.Image.{Image}
 use Rattle.screen.specs.declared.Screen.{Screen}
@@ -35,9 +36,11 @@ pub record As01 (rotation depth start : ℕ) (i : Image) : Type 0 where
   pub line : i .line ≡ lineBytes depth (i .width)
   pub start-is : start ≡ shownStart rotation depth i
 
--- a record whose line lengths are 0 means what 01 says: it is refused as by 01's rows alone, and accepted its images have 01's
--- line lengths and starts
+-- 02's starts are 01's where lines are as long as the shown width, and that a multiple of 32 ÷ depth. So a record whose line lengths are 0
+-- means what 01 says: it is refused as by 01's rows alone, and accepted its images have 01's line lengths and starts.
 pub record ShownWidths (m : ℕ) : Type 0 where
+  pub start : (rotation depth : ℕ) (i : Image) → isDepth depth ≡ true → wholeDwords depth (i .width) ≡ true → 0 < i .height
+      → i .line ≡ lineBytes depth (i .width) → startOf rotation depth i ≡ shownStart rotation depth i
   pub refused : (b : List ℕ) → NoLengths (fieldsOf b) → firstOf (screenRows m b) ≡ firstOf (without 26 (screenRows m b))
   pub main : (s : Screen) → NoLengths s → firstOf (fieldRows m s) ≡ 0
       → As01 (s .rotation) (s .depth) (valuesOf s .main .start) (mainImage s)
