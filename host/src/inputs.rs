@@ -4,6 +4,9 @@ use crate::answers::{Player, Settings};
 
 const MEMORY: u64 = 262_144;
 
+/// Most dwords of a line.
+const MOST_LINE: u64 = 1023;
+
 /// Most host words of a list that is made here.
 const MOST_WORDS: u64 = 200_000;
 
@@ -73,13 +76,15 @@ impl Rng {
     /// A number near another one, or at a limit.
     fn near(&mut self, old: u64) -> u64 {
         let step = self.pick(&[1, 1, 1, 2, 4, 8, 16, 32]);
-        match self.below(9) {
+        match self.below(10) {
             0 => 0,
             1 => 1,
             2 | 3 => old.wrapping_sub(step),
             4 | 5 => old.wrapping_add(step),
             6 => self.pick(&[1024, 1025, 1032, MEMORY, 0xFFFF, 0x8000, 0xFFFF_FFFC, 0xFFFF_FFFF]),
-            7 => old ^ 1 << self.below(32),
+            // The longest line in pixels, and a dword more, at some depth.
+            7 => self.pick(&[MOST_LINE, MOST_LINE + 1]) * self.pick(&[32, 16, 8, 4, 2]),
+            8 => old ^ 1 << self.below(32),
             _ => self.any(),
         }
     }
@@ -100,8 +105,21 @@ fn nudge(rng: &mut Rng, bytes: &mut [u8], fields: &[(usize, usize)]) {
     set(bytes, at, size, value);
 }
 
-const SCREEN_FIELDS: [(usize, usize); 11] =
-    [(0, 1), (1, 1), (2, 1), (4, 2), (6, 2), (8, 4), (12, 4), (16, 2), (18, 2), (20, 2), (22, 2)];
+const SCREEN_FIELDS: [(usize, usize); 13] = [
+    (0, 1),
+    (1, 1),
+    (2, 1),
+    (4, 2),
+    (6, 2),
+    (8, 4),
+    (12, 4),
+    (16, 2),
+    (18, 2),
+    (20, 2),
+    (22, 2),
+    (24, 2),
+    (26, 2),
+];
 const COMMAND_FIELDS: [(usize, usize); 10] =
     [(0, 1), (1, 1), (2, 1), (4, 2), (6, 2), (8, 2), (10, 2), (12, 2), (14, 2), (16, 2)];
 
@@ -113,9 +131,52 @@ pub struct Drawing {
     pub room: usize,
 }
 
-/// A base for an image of so many bytes.
-fn base(rng: &mut Rng, bytes: u64) -> u64 {
-    4 * rng.offset((MEMORY - bytes) / 4)
+/// An image in memory, counted in dwords.
+#[derive(Clone, Copy)]
+struct Image {
+    base: u64,
+    /// What a line shows, and its length.
+    shown: u64,
+    line: u64,
+    lines: u64,
+    /// Whether the record names the length.
+    named: bool,
+}
+
+/// An image that fits. Its length is often not named, and otherwise often the least, a dword more or
+/// the greatest.
+fn image(rng: &mut Rng, shown: u64, lines: u64) -> Image {
+    let left = MEMORY / 4 - shown;
+    let most = left.checked_div(lines - 1).unwrap_or(MOST_LINE).min(MOST_LINE);
+    let named = rng.one_in(2);
+    let line = match rng.below(5) {
+        _ if !named => shown,
+        0 => shown,
+        1 => most.min(shown + 1),
+        2 => most,
+        _ => rng.between(shown, most),
+    };
+    Image { base: rng.offset(left - (lines - 1) * line), shown, line, lines, named }
+}
+
+impl Image {
+    /// An image like the other one in this one's gap, right of its shown part, so that they share no
+    /// byte; smaller where it has to be. Nothing where there is no gap.
+    fn gap(&self, rng: &mut Rng, other: &Image) -> Option<Image> {
+        let gap = self.line - self.shown;
+        let shown = other.shown.min(gap);
+        let first = self.base + self.shown + rng.offset(gap - shown);
+        let left = (MEMORY / 4).checked_sub(first + shown)?;
+        let lines = other.lines.min(left / self.line + 1);
+        let base = first + self.line * rng.offset(left / self.line + 1 - lines);
+        (shown > 0).then_some(Image { base, shown, line: self.line, lines, named: true })
+    }
+
+    /// Puts base and length into a record, `k` pixels a dword.
+    fn put(&self, record: &mut [u8], base_at: usize, length_at: usize, k: u64) {
+        set(record, base_at, 4, 4 * self.base);
+        set(record, length_at, 2, if self.named { k * self.line } else { 0 });
+    }
 }
 
 /// A screen record that is accepted.
@@ -131,24 +192,28 @@ pub fn screen(rng: &mut Rng) -> Vec<u8> {
     };
     let most = MEMORY * 8 / (width * depth);
     height = height.min(if rotation % 2 == 0 { most } else { most / 8 * 8 });
-    let view = (width, height);
     let mut record = vec![0; 32];
     set(&mut record, 0, 1, depth);
     set(&mut record, 1, 1, rotation);
-    set(&mut record, 8, 4, base(rng, width * height * depth / 8));
+    let main = image(rng, width / k, height);
+    main.put(&mut record, 8, 24, k);
     if rotation % 2 == 1 {
         (width, height) = (height, width);
     }
     set(&mut record, 4, 2, width);
     set(&mut record, 6, 2, height);
     if rng.one_in(2) {
-        let (width, height) = (k * rng.size(view.0 / k), rng.size(view.1));
+        let (shown, lines) = (rng.size(main.shown), rng.size(main.lines));
+        let mut window = image(rng, shown, lines);
+        if rng.one_in(3) {
+            window = main.gap(rng, &window).unwrap_or(window);
+        }
         record[2] = 1;
-        set(&mut record, 12, 4, base(rng, width * height * depth / 8));
-        set(&mut record, 16, 2, k * rng.offset((view.0 - width) / k));
-        set(&mut record, 18, 2, rng.offset(view.1 - height));
-        set(&mut record, 20, 2, width);
-        set(&mut record, 22, 2, height);
+        window.put(&mut record, 12, 26, k);
+        set(&mut record, 16, 2, k * rng.offset(main.shown - window.shown));
+        set(&mut record, 18, 2, rng.offset(main.lines - window.lines));
+        set(&mut record, 20, 2, k * window.shown);
+        set(&mut record, 22, 2, window.lines);
     }
     record
 }

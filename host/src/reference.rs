@@ -1,4 +1,5 @@
-//! Paper 01 in plain Rust: compiling, playing, the point reader. Playing in blocks is in `serial`.
+//! Paper 01 with request c) of paper 02, in plain Rust: compiling, playing, the point reader. Playing
+//! in blocks is in `serial`.
 //!
 //! The four public functions are not inlined, so that timing them beside the library is fair.
 
@@ -30,33 +31,37 @@ fn all_zero(bytes: &[u8]) -> bool {
 
 // ---- The screen ----
 
-/// A surface's image in memory: base in bytes, size in pixels.
+/// A surface's image in memory: base in bytes, shown size in pixels.
 #[derive(Clone, Copy, Default)]
 struct Image {
     base: u32,
     width: u32,
     height: u32,
+    /// Line length in pixels.
+    length: u32,
 }
 
 impl Image {
     /// Line length in bytes.
     fn line(&self, depth: u32) -> u32 {
-        self.width * depth / 8
+        self.length * depth / 8
     }
 
     fn fits(&self, depth: u32) -> bool {
-        let size = self.line(depth) * self.height;
+        // To the end of the last shown pixel.
+        let size = (self.height - 1) * self.line(depth) + self.width * depth / 8;
         self.base % 4 == 0 && u64::from(self.base) + u64::from(size) <= MEMORY as u64
     }
 
     /// The start register, in dwords.
     fn start(&self, depth: u32, rotation: u32) -> u32 {
-        let line = self.line(depth);
+        let shown = self.width * depth / 8;
+        let last_line = (self.height - 1) * self.line(depth);
         match rotation {
             0 => self.base / 4,
-            1 => (self.base + line) / 4 - 1,
-            2 => (self.base + line * self.height) / 4 - 1,
-            _ => (self.base + (self.height - 1) * line) / 4,
+            1 => (self.base + shown) / 4 - 1,
+            2 => (self.base + last_line + shown) / 4 - 1,
+            _ => (self.base + last_line) / 4,
         }
     }
 
@@ -102,8 +107,18 @@ fn view(depth: u32, rotation: u32, width: u32, height: u32) -> Result<(u32, u32)
     Ok(view)
 }
 
+/// The line length of an image, in pixels, from the number in the record; or refusal 26.
+fn length(given: u32, width: u32, depth: u32) -> Result<u32, u32> {
+    let k = 32 / depth;
+    match given {
+        0 => Ok(width),
+        _ if given < width || given % k != 0 || given / k > 1023 => Err(26),
+        _ => Ok(given),
+    }
+}
+
 impl Screen {
-    /// The screen of a record, or refusal 1 to 9.
+    /// The screen of a record, or refusal 1 to 9 or 26.
     fn read(record: &[u8]) -> Result<Screen, u32> {
         if record.len() != 32 {
             return Err(1);
@@ -111,22 +126,28 @@ impl Screen {
         let flag = u32::from(record[2]);
         if flag > 1
             || record[3] != 0
-            || !all_zero(&record[24..])
-            || flag == 0 && !all_zero(&record[12..24])
+            || !all_zero(&record[28..])
+            || flag == 0 && !(all_zero(&record[12..24]) && all_zero(&record[26..28]))
         {
             return Err(1);
         }
         let (depth, rotation) = (record[0].into(), record[1].into());
         let (width, height) = (u16_at(record, 4), u16_at(record, 6));
         let (view_width, view_height) = view(depth, rotation, width, height)?;
-        let main = Image { base: u32_at(record, 8), width: view_width, height: view_height };
+        let main = Image {
+            base: u32_at(record, 8),
+            width: view_width,
+            height: view_height,
+            length: length(u16_at(record, 24), view_width, depth)?,
+        };
         if !main.fits(depth) {
             return Err(6);
         }
-        let window = Image {
+        let mut window = Image {
             base: u32_at(record, 12),
             width: u16_at(record, 20),
             height: u16_at(record, 22),
+            length: 0,
         };
         let (x, y) = (u16_at(record, 16), u16_at(record, 18));
         if flag == 1 {
@@ -137,6 +158,7 @@ impl Screen {
             if x % (32 / depth) != 0 || w % (32 / depth) != 0 {
                 return Err(8);
             }
+            window.length = length(u16_at(record, 26), w, depth)?;
             if !window.fits(depth) {
                 return Err(9);
             }
@@ -254,7 +276,7 @@ struct Plan {
     length: usize,
 }
 
-/// The plan of a list, or refusal 1 to 17.
+/// The plan of a list, or refusal 1 to 17 or 26.
 fn plan(screen: &[u8], list: &[u8], words: usize, room: usize) -> Result<Plan, Refusal> {
     let whole = |number| (number, 0);
     let screen = Screen::read(screen).map_err(whole)?;
@@ -674,7 +696,7 @@ pub fn play(stream: &[u8], memory: &mut [u8]) -> Played {
     }
 }
 
-/// Compiles and plays: 18, then 1 to 17, and only then changes a buffer.
+/// Compiles and plays: 18, then compiling's refusals, and only then changes a buffer.
 #[inline(never)]
 pub fn draw(
     screen: &[u8],

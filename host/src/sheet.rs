@@ -1,4 +1,5 @@
-//! The plain sheet of paper 01, from the records themselves. It is fed accepted input only.
+//! The plain sheet of paper 01, with the line lengths of paper 02's request c), from the records
+//! themselves. It is fed accepted input only.
 
 fn number(bytes: &[u8], at: usize) -> usize {
     usize::from(bytes[at]) + 256 * usize::from(bytes[at + 1])
@@ -8,27 +9,31 @@ struct Surface {
     base: usize,
     width: usize,
     height: usize,
+    /// Line length in pixels.
+    length: usize,
     depth: usize,
 }
 
 /// Main (0) or the window (1).
 fn surface(screen: &[u8], which: u8) -> Surface {
     let depth = screen[0].into();
-    if which == 1 {
-        let base = number(screen, 12) + 65_536 * number(screen, 14);
-        return Surface { base, width: number(screen, 20), height: number(screen, 22), depth };
-    }
-    let base = number(screen, 8) + 65_536 * number(screen, 10);
-    let (panel_width, panel_height) = (number(screen, 4), number(screen, 6));
-    match screen[1] {
-        0 | 2 => Surface { base, width: panel_width, height: panel_height, depth },
-        _ => Surface { base, width: panel_height, height: panel_width, depth },
-    }
+    let (base_at, length_at) = if which == 1 { (12, 26) } else { (8, 24) };
+    let base = number(screen, base_at) + 65_536 * number(screen, base_at + 2);
+    let (width, height) = match (which, screen[1]) {
+        (1, _) => (number(screen, 20), number(screen, 22)),
+        (_, 0 | 2) => (number(screen, 4), number(screen, 6)),
+        _ => (number(screen, 6), number(screen, 4)),
+    };
+    let length = match number(screen, length_at) {
+        0 => width,
+        given => given,
+    };
+    Surface { base, width, height, length, depth }
 }
 
 impl Surface {
     fn address(&self, x: usize, y: usize) -> usize {
-        self.base + y * (self.width * self.depth / 8) + x * self.depth / 8
+        self.base + y * (self.length * self.depth / 8) + x * self.depth / 8
     }
 
     fn pixel(&self, bytes: &[u8], x: usize, y: usize) -> u32 {
@@ -75,7 +80,7 @@ pub fn draw(screen: &[u8], list: &[u8], words: &[u16], sheet: &mut [u8]) {
         let colour = number(command, 16) as u32;
         // What the surface held just before: the sheet up to its end.
         before.clear();
-        before.extend_from_slice(&sheet[..on.address(0, on.height)]);
+        before.extend_from_slice(&sheet[..on.address(on.width, on.height - 1)]);
         for j in 0..height {
             let line: Vec<u16> = match command[0] {
                 2 => words.by_ref().take((width * on.depth / 8 + 1) / 2).copied().collect(),

@@ -1,7 +1,7 @@
-//! Paper 01's cases S1 to S9 and B1 to B4, and cases of paper 02's request a), on the reference, and
-//! on the library where it is linked.
+//! Paper 01's cases S1 to S9 and B1 to B4, and cases of paper 02's requests a) and c), on the
+//! reference, and on the library where it is linked.
 
-use host::answers::{Compiled, Drawn, Played, Player, Settings};
+use host::answers::{Compiled, Drawn, Played, Player, Point, Settings};
 use host::reference::MEMORY;
 use host::serial::BLOCK;
 use host::{reference, serial, sheet, unit};
@@ -13,9 +13,12 @@ struct Screen {
     base: u32,
     /// x, y, width, height, base.
     window: Option<(u16, u16, u16, u16, u32)>,
+    /// Line lengths of main and of the window, as the record has them.
+    lengths: (u16, u16),
 }
 
-const S1: Screen = Screen { depth: 4, rotation: 0, panel: (320, 240), base: 0, window: None };
+const S1: Screen =
+    Screen { depth: 4, rotation: 0, panel: (320, 240), base: 0, window: None, lengths: (0, 0) };
 
 impl Screen {
     fn record(&self) -> Vec<u8> {
@@ -29,10 +32,10 @@ impl Screen {
         put(&self.panel.1.to_le_bytes());
         put(&self.base.to_le_bytes());
         put(&base.to_le_bytes());
-        for number in [x, y, w, h] {
+        for number in [x, y, w, h, self.lengths.0, self.lengths.1] {
             put(&number.to_le_bytes());
         }
-        put(&[0; 8]);
+        put(&[0; 4]);
         record
     }
 }
@@ -87,9 +90,13 @@ fn s5_to_s7() {
     assert_eq!(positions(2, wide), [0x1D_000A, 0xB3_003C]);
 }
 
+/// The number of a screen.
+fn number(screen: &Screen) -> u32 {
+    compile(screen, &[], &[]).0.number
+}
+
 #[test]
 fn s8_and_s9() {
-    let number = |screen: &Screen| compile(screen, &[], &[]).0.number;
     assert_eq!(number(&Screen { window: Some((4, 0, 8, 1, 0)), ..S1 }), 8);
     let large = Screen { depth: 2, panel: (1024, 1024), ..S1 };
     assert_eq!(number(&large), 0);
@@ -210,27 +217,21 @@ fn end_at_fault() {
     }
 }
 
-/// High nibble first at depth 4, and each corner of the panel at each rotation.
-#[test]
-fn corners() {
-    let mut memory = vec![0; MEMORY];
-    // The view's corner pixels: 1 and 2 above, 3 and 4 below.
-    let corners = |memory: &mut [u8], line: usize, lines: usize| {
-        memory[0] = 0x10;
-        memory[line - 1] = 0x02;
-        memory[(lines - 1) * line] = 0x30;
-        memory[lines * line - 1] = 0x04;
-    };
+/// The corners of S1's panel, at each rotation, on lines of so many pixels.
+fn corners_on(length: u16) {
     // Seen from the panel: upper left, upper right, lower left, lower right.
     let want = [[1, 2, 3, 4], [2, 4, 1, 3], [4, 3, 2, 1], [3, 1, 4, 2]];
     for (rotation, want) in (0..).zip(want) {
-        let screen = Screen { rotation, ..S1 };
-        memory.fill(0);
-        if rotation % 2 == 0 {
-            corners(&mut memory, 160, 240);
-        } else {
-            corners(&mut memory, 120, 320);
-        }
+        let screen = Screen { rotation, lengths: (length, 0), ..S1 };
+        let (shown, lines) = if rotation % 2 == 0 { (160, 240) } else { (120, 320) };
+        let line = if length == 0 { shown } else { usize::from(length) / 2 };
+        // The view's corner pixels: 1 and 2 above, 3 and 4 below.
+        let mut memory = vec![0; MEMORY];
+        let last = (lines - 1) * line;
+        memory[0] = 0x10;
+        memory[shown - 1] = 0x02;
+        memory[last] = 0x30;
+        memory[last + shown - 1] = 0x04;
         let settings = Settings {
             depth: 4,
             rotation: rotation.into(),
@@ -243,6 +244,270 @@ fn corners() {
             let shown = [(0, 0), (319, 0), (0, 239), (319, 239)]
                 .map(|(p, q)| read(&settings, p, q, &memory).colour);
             assert_eq!(shown, want, "rotation {rotation}");
+        }
+    }
+}
+
+/// High nibble first at depth 4, and each corner of the panel at each rotation.
+#[test]
+fn corners() {
+    corners_on(0);
+}
+
+// ---- Request c) of 02 ----
+
+type Draw = fn(&[u8], &[u8], &[u16], &mut [u8], &mut [u8]) -> Drawn;
+type Read = fn(&Settings, u32, u32, &[u8]) -> Point;
+
+/// S1 to S4 on lines of 640 pixels.
+#[test]
+fn starts_of_long_lines() {
+    for (rotation, start) in (0..).zip([0, 0x1D, 0x4AD7, 0x63B0]) {
+        let screen = Screen { rotation, lengths: (640, 0), ..S1 };
+        assert_eq!(values(&screen), [start, 0x50, 0, 0, 0, 0]);
+    }
+}
+
+#[test]
+fn corners_of_long_lines() {
+    corners_on(640);
+}
+
+/// Windows of S5 to S7 on lines of 640 pixels: the edges stay, and main has lines of its own.
+#[test]
+fn window_starts_of_long_lines() {
+    let tall = Some((64, 80, 120, 160, 38_400));
+    let wide = Some((80, 60, 160, 120, 38_400));
+    let short_starts = [(0, 0x28), (0x1D, 0x1E), (0x257F, 0x28), (0x2562, 0x1E)];
+    let long_starts = [0, 0x1D, 0x4AD7, 0x63B0];
+    for (rotation, window, start, x, y) in [
+        (0, tall, 0x2580, 0x16_0008, 0xEF_0050),
+        (1, tall, 0x258E, 0xEF_0050, 0x15_0007),
+        (2, wide, 0x4AC3, 0x1D_000A, 0xB3_003C),
+        (3, tall, 0x5730, 0xEF_0050, 0x16_0008),
+    ] {
+        let screen = Screen { rotation, window, lengths: (0, 640), ..S1 };
+        let (main, offset) = short_starts[usize::from(rotation)];
+        assert_eq!(values(&screen), [main, offset, start, 0x50, x, y]);
+        let screen = Screen { lengths: (640, 640), ..screen };
+        let main = long_starts[usize::from(rotation)];
+        assert_eq!(values(&screen), [main, 0x50, start, 0x50, x, y]);
+    }
+}
+
+/// The image ends with its last shown pixel.
+#[test]
+fn last_bases() {
+    let long = Screen { lengths: (640, 0), ..S1 };
+    // 239 lines of 320 bytes and 160 bytes; at 90 degrees 319 lines and 120 bytes.
+    for (rotation, last) in [(0, 185_504), (1, 159_944), (2, 185_504), (3, 159_944)] {
+        assert_eq!(number(&Screen { rotation, base: last, ..long }), 0);
+        assert_eq!(number(&Screen { rotation, base: last + 4, ..long }), 6);
+    }
+    // 119 lines of 320 bytes and 80 bytes.
+    let window = |base| Screen { window: Some((80, 60, 160, 120, base)), lengths: (0, 640), ..S1 };
+    assert_eq!(number(&window(223_984)), 0);
+    assert_eq!(number(&window(223_988)), 9);
+    // 64 lines of 4,092 bytes and the 4 shown of the next fit, 65 lines do not.
+    let tall = Screen { depth: 1, panel: (32, 65), lengths: (32_736, 0), ..S1 };
+    assert_eq!(values(&tall), [0, 0x3FF, 0, 0, 0, 0]);
+    assert_eq!(number(&Screen { panel: (32, 66), ..tall }), 6);
+}
+
+/// Each ground of 26, for main and for the window.
+#[test]
+fn lengths() {
+    // Lengths of lines that show 320 pixels at depth 4: 40 dwords of 8.
+    let main = |length| number(&Screen { lengths: (length, 0), ..S1 });
+    for length in [0, 320, 328, 640] {
+        assert_eq!(main(length), 0, "{length}");
+    }
+    for length in [1, 8, 160, 312, 319, 321, 324, 327, 644, 8192, 65_528, 65_535] {
+        assert_eq!(main(length), 26, "{length}");
+    }
+    // The shown width is the view's.
+    assert_eq!(number(&Screen { rotation: 1, lengths: (240, 0), ..S1 }), 0);
+    assert_eq!(number(&Screen { rotation: 1, lengths: (232, 0), ..S1 }), 26);
+
+    // The window's is its own, below main's too.
+    let window =
+        |length| number(&Screen { window: Some((8, 8, 16, 2, 0)), lengths: (0, length), ..S1 });
+    for length in [0, 16, 24, 320, 640, 8184] {
+        assert_eq!(window(length), 0, "{length}");
+    }
+    for length in [1, 8, 15, 17, 20, 8180, 8185, 8192, 65_528, 65_535] {
+        assert_eq!(window(length), 26, "{length}");
+    }
+
+    // The longest line, 1,023 dwords, at each depth.
+    for (depth, longest, over) in [
+        (1, 32_736, 32_768),
+        (2, 16_368, 16_384),
+        (4, 8184, 8192),
+        (8, 4092, 4096),
+        (16, 2046, 2048),
+    ] {
+        let window = Some((0, 0, 32, 1, 0));
+        let screen = |lengths| Screen { depth, panel: (32, 1), window, lengths, ..S1 };
+        let both = values(&screen((longest, longest)));
+        assert_eq!((both[1], both[3]), (0x3FF, 0x3FF));
+        assert_eq!(number(&screen((over, 0))), 26);
+        assert_eq!(number(&screen((0, over))), 26);
+    }
+}
+
+/// A length of 1 is never taken; what is checked before it shows.
+#[test]
+fn order_of_26() {
+    let main = Screen { lengths: (1, 0), ..S1 };
+    assert_eq!(number(&Screen { lengths: (1, 8), ..main }), 1);
+    assert_eq!(number(&Screen { depth: 3, ..main }), 2);
+    assert_eq!(number(&Screen { rotation: 4, ..main }), 3);
+    assert_eq!(number(&Screen { panel: (321, 240), ..main }), 4);
+    assert_eq!(number(&Screen { rotation: 1, panel: (320, 241), ..main }), 5);
+    assert_eq!(number(&Screen { base: 2, ..main }), 26);
+    assert_eq!(number(&Screen { base: 262_144, ..main }), 26);
+    assert_eq!(number(&Screen { window: Some((0, 0, 0, 0, 0)), ..main }), 26);
+
+    let window =
+        |x, y, w, h, base| Screen { window: Some((x, y, w, h, base)), lengths: (0, 1), ..S1 };
+    assert_eq!(number(&Screen { base: 2, ..window(0, 0, 8, 1, 0) }), 6);
+    assert_eq!(number(&window(0, 0, 0, 1, 0)), 7);
+    assert_eq!(number(&window(320, 0, 8, 1, 0)), 7);
+    assert_eq!(number(&window(4, 0, 8, 1, 0)), 8);
+    assert_eq!(number(&window(0, 0, 4, 1, 0)), 8);
+    assert_eq!(number(&window(0, 0, 8, 1, 2)), 26);
+    assert_eq!(number(&window(0, 0, 8, 1, 262_144)), 26);
+    assert_eq!(number(&Screen { lengths: (0, 8), ..window(0, 0, 8, 1, 262_144) }), 9);
+
+    // A refused screen comes before its list, and its place is 0.
+    let outside = command(0, 0, 0, [640, 0, 1, 1, 0, 0, 1]);
+    let (answer, _) = compile(&Screen { depth: 8, ..main }, &outside, &[0]);
+    assert_eq!(answer, Compiled { number: 26, ..Compiled::default() });
+}
+
+/// A window length needs a window, and the last four bytes stay zero.
+#[test]
+fn zero_bytes() {
+    assert_eq!(number(&Screen { lengths: (0, 640), ..S1 }), 1);
+    assert_eq!(number(&Screen { lengths: (640, 640), ..S1 }), 1);
+    // 1 in the low byte is a pixel, and in the high byte 256: enough for the window alone.
+    for (window, want) in
+        [(None, [26, 26, 1, 1, 1, 1, 1, 1]), (Some((8, 8, 16, 2, 0)), [26, 26, 26, 0, 1, 1, 1, 1])]
+    {
+        for (at, want) in (24..).zip(want) {
+            let mut record = Screen { window, ..S1 }.record();
+            record[at] = 1;
+            for compile in [reference::compile, unit::compile] {
+                assert_eq!(compile(&record, &[], &[], &mut [0; 48]).number, want, "byte {at}");
+            }
+        }
+    }
+}
+
+/// B1 on lines of 640 pixels.
+#[test]
+fn b1_on_long_lines() {
+    let screen = Screen { depth: 8, lengths: (640, 0), ..S1 };
+    let list = command(0, 0, 0, [10, 20, 100, 150, 0, 0, 1]);
+    let (answer, records) = compile(&screen, &list, &[]);
+    assert_eq!((answer.number, answer.length), (0, 15 * 8));
+    let values: Vec<u32> = records.into_iter().map(|record| record.1).collect();
+    assert_eq!(values, [0, 0xA0, 0, 0, 0, 0, 0x0C, 0, 0x320A, 0x140, 0x63, 0x95, 0, 1, 1]);
+}
+
+/// A move down by a line of 16 bytes: both addresses are the lower right pixels'.
+#[test]
+fn move_on_long_lines() {
+    let screen = Screen { depth: 8, panel: (8, 3), lengths: (16, 0), ..S1 };
+    let list = command(1, 0, 0xC, [1, 1, 7, 2, 0, 0, 0]);
+    let (_, records) = compile(&screen, &list, &[]);
+    // (6, 1) and (7, 2).
+    assert_eq!(records[6..9], [(0x8008, 0xC_0003), (0x800C, 22), (0x8010, 39)]);
+    assert_eq!(records[9], (0x8014, 8));
+    let memory: Vec<u8> = (0..MEMORY).map(|at| at as u8).collect();
+    let mut want = memory.clone();
+    want[17..24].copy_from_slice(&[0, 1, 2, 3, 4, 5, 6]);
+    want[33..40].copy_from_slice(&[16, 17, 18, 19, 20, 21, 22]);
+    assert_eq!(sheet_of(&screen, &list, &memory), want);
+    for draw in [reference::draw, unit::draw] {
+        let mut after = memory.clone();
+        let answer = draw(&screen.record(), &list, &[], &mut [0; 120], &mut after);
+        assert_eq!((answer.number, answer.values), (0, [0, 4, 0, 0, 0, 0]));
+        assert_eq!(after, want);
+    }
+}
+
+/// Drawing stays inside the shown part, at its destination and at a move's source.
+#[test]
+fn drawing_inside_the_shown_part() {
+    let window = Some((8, 8, 16, 2, 0));
+    let screen = Screen { depth: 8, window, lengths: (640, 640), ..S1 };
+    for (surface, width, height) in [(0, 320, 240), (1, 16, 2)] {
+        let fill = |x, y, w, h| {
+            compile(&screen, &command(0, surface, 0, [x, y, w, h, 0, 0, 1]), &[]).0.number
+        };
+        assert_eq!(fill(0, 0, width, height), 0);
+        assert_eq!(fill(width - 1, 0, 1, 1), 0);
+        assert_eq!(fill(width, 0, 1, 1), 14);
+        assert_eq!(fill(0, 0, width + 1, 1), 14);
+        assert_eq!(fill(0, 1, 1, height), 14);
+        let source =
+            |x| compile(&screen, &command(1, surface, 0xC, [0, 0, 2, 1, x, 0, 0]), &[]).0.number;
+        assert_eq!(source(width - 2), 0);
+        assert_eq!(source(width - 1), 14);
+    }
+}
+
+/// A window in main's gap: a fill of the one leaves the other, at each rotation.
+#[test]
+fn window_in_the_gap() {
+    for rotation in 0..4 {
+        let (width, height) = if rotation % 2 == 0 { (64, 48) } else { (48, 64) };
+        // Main's lines have 80 pixels; the window is 12 by 10, at line 5, behind the shown part.
+        let base = 400 + 5 * 80 + u32::from(width);
+        let window = Some((8, 4, 12, 10, base));
+        let lengths = (80, 80);
+        let screen = Screen { depth: 8, rotation, panel: (64, 48), base: 400, window, lengths };
+        let all_main = command(0, 0, 0, [0, 0, width, height, 0, 0, 1]);
+        let all_window = command(0, 1, 0, [0, 0, 12, 10, 0, 0, 2]);
+        let pixels = usize::from(width * height);
+        let both = [&all_main[..], &all_window].concat();
+        for (list, main, inside) in [(&all_main, 1, 9), (&all_window, 9, 2), (&both, 1, 2)] {
+            let memory = vec![9; MEMORY];
+            let drawn = sheet_of(&screen, list, &memory);
+            let count = |colour| drawn.iter().filter(|&&byte| byte == colour).count();
+            assert_eq!(count(1), if main == 1 { pixels } else { 0 });
+            assert_eq!(count(2), if inside == 2 { 120 } else { 0 });
+            for (draw, read) in [
+                (reference::draw as Draw, reference::read_point as Read),
+                (unit::draw, unit::read_point),
+            ] {
+                let mut after = memory.clone();
+                let answer = draw(&screen.record(), list, &[], &mut [0; 192], &mut after);
+                assert_eq!(answer.number, 0);
+                assert_eq!(after, drawn);
+                let settings = Settings {
+                    depth: 8,
+                    rotation: rotation.into(),
+                    flag: 1,
+                    width: 64,
+                    height: 48,
+                    values: answer.values,
+                };
+                let mut in_window = 0;
+                for (p, q) in (0..64).flat_map(|p| (0..48).map(move |q| (p, q))) {
+                    let (u, v) =
+                        [(p, q), (47 - q, p), (63 - p, 47 - q), (q, 63 - p)][usize::from(rotation)];
+                    let is_inside = (8..20).contains(&u) && (4..14).contains(&v);
+                    in_window += u32::from(is_inside);
+                    let want = if is_inside { inside } else { main };
+                    assert_eq!(read(&settings, p, q, &after).colour, want);
+                    let shown = sheet::shows(&screen.record(), &drawn, p as usize, q as usize);
+                    assert_eq!(shown, want);
+                }
+                assert_eq!(in_window, 120);
+            }
         }
     }
 }

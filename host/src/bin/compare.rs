@@ -5,7 +5,8 @@
 //!
 //! Inputs are numbered from FIRST (0); each is made from the seed and its number alone, so
 //! `compare 1 SEED NUMBER` repeats one. Ends with status 1 on a difference, or where a refusal
-//! number was never seen, or not by `feed` and `end` where they give it.
+//! number was never seen, or not by `feed` and `end` where they give it, or 26 not for main and for
+//! the window.
 
 use std::fmt::{Debug, Write};
 use std::process::ExitCode;
@@ -27,7 +28,7 @@ const END: usize = 5;
 
 /// The highest number of a refusal, and those that there are not.
 const HIGHEST: usize = 32;
-const FREE: std::ops::Range<usize> = 26..32;
+const FREE: std::ops::Range<usize> = 27..32;
 
 /// What `feed` and `end` must have given, repeated answers among it.
 const FED: [(usize, &[usize]); 2] =
@@ -46,6 +47,8 @@ struct Bench {
     third: Vec<u8>,
     /// How often each function gave each number.
     seen: [[u64; HIGHEST + 1]; FUNCTIONS.len()],
+    /// How often 26 was main's, and the window's.
+    lengths: [u64; 2],
 }
 
 /// One call of a player: the block's place in its bytes, and the length of the memory.
@@ -135,6 +138,7 @@ impl Bench {
             stream: Default::default(),
             third: Vec::new(),
             seen: [[0; HIGHEST + 1]; FUNCTIONS.len()],
+            lengths: [0; 2],
         }
     }
 
@@ -170,6 +174,20 @@ impl Bench {
         drawing
     }
 
+    /// Counts a number of compiling or drawing; 26 is main's where the screen gets it without its
+    /// window too.
+    fn count(&mut self, function: usize, number: u32, screen: &[u8]) {
+        self.seen[function][number as usize] += 1;
+        if number == 26 {
+            let mut alone = screen.to_vec();
+            alone[2] = 0;
+            alone[12..24].fill(0);
+            alone[26..28].fill(0);
+            let main = reference::compile(&alone, &[], &[], &mut [0; 48]).number == 26;
+            self.lengths[usize::from(!main)] += 1;
+        }
+    }
+
     /// One list: compiled, played and read.
     fn compile(&mut self, rng: &mut Rng) -> Checked {
         let drawing = self.drawing(rng);
@@ -178,16 +196,16 @@ impl Bench {
         let [stream, other] = &mut self.stream;
         let answer = reference::compile(screen, list, words, stream);
         let theirs = unit::compile(screen, list, words, other);
-        self.seen[COMPILE][answer.number as usize] += 1;
         same("compile", answer, theirs, input)?;
         same_bytes("compile's stream", stream, other, input)?;
         // A refusal leaves the buffer, acceptance the bytes past the stream.
         let length = answer.length as usize;
         same_bytes("past the stream", &stream[length..], &self.pool[length..drawing.room], input)?;
+        self.count(COMPILE, answer.number, screen);
         if answer.number != 0 {
             return Ok(());
         }
-        stream.truncate(length);
+        self.stream[0].truncate(length);
         let settings = Settings {
             depth: answer.depth,
             rotation: answer.rotation,
@@ -282,10 +300,11 @@ impl Bench {
         let [memory, other_memory] = &mut self.memory;
         let answer = reference::draw(screen, list, words, stream, memory);
         let theirs = unit::draw(screen, list, words, other_stream, other_memory);
-        self.seen[DRAW][answer.number as usize] += 1;
         same("draw", answer, theirs, input)?;
         same_bytes("draw's stream", stream, other_stream, input)?;
-        same_bytes("draw's memory", memory, other_memory, input)
+        same_bytes("draw's memory", memory, other_memory, input)?;
+        self.count(DRAW, answer.number, screen);
+        Ok(())
     }
 
     /// One stream, compiled or foreign, whole or changed.
@@ -531,11 +550,15 @@ fn main() -> ExitCode {
         let missed = |&(function, numbers): &(usize, &[usize])| {
             row[function] == 0 && numbers.contains(&number)
         };
-        if row.iter().all(|&times| times == 0) || FED.iter().any(missed) {
+        let missed = row.iter().all(|&times| times == 0)
+            || FED.iter().any(missed)
+            || number == 26 && bench.lengths.contains(&0);
+        if missed {
             unseen.push(number);
         }
     }
-    print!("{report}");
+    let [main, window] = bench.lengths;
+    print!("{report}\n26 for main {main}, for the window {window}\n");
     if !unseen.is_empty() {
         println!("\nnever seen: {unseen:?}");
         return ExitCode::FAILURE;
