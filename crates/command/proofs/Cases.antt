@@ -50,6 +50,17 @@ pub values-hold : (blitValues (screen 8 320 240) (command 0 0 0 10 20 100 150 0 
 unfolding viewWidth viewHeight mainImage windowImage surfaceOf addressOf destinationOf sourceOf isNegative lastColumn lastLine commandValue sourceValue destinationValue controlValue blitValues
 values-hold = (refl, refl, refl, refl, refl)
 
+-- an upright screen of 320 by 240 at depth 8 with lines of 640 pixels, and a window of 8 by 4 at byte 1,024 with lines of 12
+abbrev wide : Screen
+wide =
+    record { depth = 8; rotation = 0; flag = 1; width = 320; height = 240; base = 0; line = 640; window = record { base = 1024; x = 0; y = 0; width = 8; height = 4; line = 12 } }
+
+-- addresses and the memory offset are told by the line length (02, c): B1 on it, 20 × 640 + 10, and a write of 3 by 2 at (2, 1) of the window, 1,024 + 12 + 2
+pub wide-values : (blitValues wide (command 0 0 0 10 20 100 150 0 0 1) ≡ 0x0C ∷ 0 ∷ 0x320A ∷ 0x140 ∷ 0x63 ∷ 0x95 ∷ 0 ∷ 1 ∷ 1 ∷ [])
+    × (blitValues wide (command 2 1 0xC 2 1 3 2 0 0 0) ≡ 0xC0000 ∷ 0 ∷ 1038 ∷ 6 ∷ 2 ∷ 1 ∷ 0 ∷ 0 ∷ 1 ∷ [])
+unfolding viewWidth viewHeight mainImage windowImage surfaceOf addressOf destinationOf sourceOf isNegative lastColumn lastLine commandValue sourceValue destinationValue controlValue blitValues
+wide-values = (refl, refl)
+
 -- the nine records of a command, in the stream's order
 pub registers-hold : blitRegisters ≡ 0x8008 ∷ 0x800C ∷ 0x8010 ∷ 0x8014 ∷ 0x8018 ∷ 0x801C ∷ 0x8020 ∷ 0x8024 ∷ 0x8000 ∷ []
 registers-hold = refl

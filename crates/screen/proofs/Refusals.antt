@@ -6,12 +6,13 @@ use mathlib.Core.Bool.{Bool, true, false}
 use mathlib.Core.List.{List, [], _∷_, _++_, map}
 use lib.ListN.{replicate, set}
 use Rattle.record.specs.Bytes.{allZero, twoBytes, fourBytes}
-use Rattle.record.specs.Checks.{firstOf}
+use Rattle.record.specs.Checks.{row, firstOf}
 use Rattle.pixel.specs.Depth.{isDepth}
 use Rattle.screen.specs.Image.{imageEnd, startOf}
 use Rattle.screen.specs.Screen.{memorySize, fieldsOf, wellFormed, panelOk, viewWidth, viewHeight, wholeDwords, mainImage, windowImage, lineOk, imageOk, windowOk, windowWhole, fieldRows, screenRows}
 use Rattle.screen.specs.Values.{windowX, windowY, originOf, valuesOf}
 use Rattle.screen.specs.Fields.{valuesFit}
+use Rattle.screen.specs.Shown.{without}
 use Rattle.screen.specs.Cases.{lined, plain, windowLined, withWindow}
 use Rattle.screen.specs.declared.Screen.{Screen}
 
@@ -56,6 +57,11 @@ pub first-of-two : map number (
     ∷ []
 unfolding allZero firstOf isDepth imageEnd fieldsOf wellFormed panelOk viewWidth viewHeight wholeDwords mainImage windowImage lineOk imageOk windowOk windowWhole fieldRows screenRows
 first-of-two = refl
+
+-- a table without its rows of number 26, the first, the last and one between, has all others in their order
+pub left-out : without 26 (row 26 true ∷ row 5 false ∷ row 26 false ∷ row 6 true ∷ row 26 true ∷ []) ≡ row 5 false ∷ row 6 true ∷ []
+unfolding without
+left-out = refl
 
 -- 1: 31 and 33 bytes, flag 2, and each byte that must be zero at its edge: 3, 28, 31, and with flag 0 alone 12 and 23, 26 and 27; a line length of
 -- main may stand in any record
