@@ -1,18 +1,23 @@
 #!/usr/bin/env python3
-"""Writes the example files beside it: a wear chart of 24 hourly columns, upright and turned, in grey and in colour, and damaged
-ones. The same list and words serve every rotation; only the screen record differs."""
+"""Writes the example files beside it: a wear chart of 24 hourly columns, upright and turned, in grey and in colour; one of 48
+columns, and screen records that show the last 24 of them; and damaged ones. The same list and words serve every rotation; only
+the screen record differs."""
 import struct
 from pathlib import Path
 
 HERE = Path(__file__).resolve().parent
 WIDTH, HEIGHT = 96, 64                       # the view, as a person sees it
-WINDOW = (8, 3, 24, 11)                      # x, y, width, height of the small window, which holds the number
+WIDE = 192                                   # the chart of two days; a view shows half of it
+WINDOW = (24, 11)                            # width and height of the small window, which holds the number
+PLACE = (8, 3)                               # its place in the view
 FILL, MOVE, WRITE = 0, 1, 2
 MAIN, SMALL = 0, 1
 COPY = 0xC
 
 # minutes worn in each of 25 hours; the last one arrives after the chart is drawn
 WORN = [52, 60, 60, 58, 60, 60, 44, 12, 30, 48, 55, 60, 20, 0, 0, 15, 40, 52, 60, 57, 60, 60, 49, 54, 60]
+# in each of 48 hours: the first day with the brace, and the last 24 of those
+TWO_DAYS = [0, 0, 2, 4, 4, 6, 8, 10, 12, 12, 14, 16, 18, 20, 22, 24, 26, 28, 32, 34, 38, 42, 46, 50] + WORN[1:]
 
 GREY = {'paper': 0xE8, 'line': 0x50, 'bar': 0x90, 'low': 0xC0, 'new': 0x30, 'ink': 0x00, 'box': 0xFF}
 COLOUR = {name: r >> 3 << 11 | g >> 2 << 5 | b >> 3 for name, (r, g, b) in {
@@ -28,10 +33,10 @@ DIGITS = {'0': '01110 10001 10011 10101 11001 10001 01110', '1': '00100 01100 00
 MARKER = ['11111', '01110', '00100']
 
 
-def screen(depth, rotation, width, height):
-    x, y, w, h = WINDOW
-    base = WIDTH * HEIGHT * depth // 8
-    return struct.pack('<BBBBHHIIHHHH8x', depth, rotation, 1, 0, width, height, 0, base, x, y, w, h)
+def screen(depth, rotation, width, height, place=PLACE, whole=WIDTH, first=0, line=0):
+    """The record of a panel that shows the columns from `first` on of an image of `whole` columns; the window's image is behind."""
+    base, small = first * depth // 8, whole * HEIGHT * depth // 8
+    return struct.pack('<BBBBHHIIHHHHHH4x', depth, rotation, 1, 0, width, height, base, small, *place, *WINDOW, line, 0)
 
 
 def command(operation, surface, x, y, w, h, raster=0, source=(0, 0), colour=0):
@@ -58,28 +63,29 @@ def glyphs(text, ink, box):
     return rows
 
 
-def bar(column, minutes, colour):
-    height = 1 + minutes * 2 // 3
-    return command(FILL, MAIN, 12 + 3 * column, 56 - height, 2, height, colour=colour)
-
-
-def chart(depth, c):
-    """The command list and the host words."""
+def chart(depth, c, worn, hours, width, left):
+    """The command list and the host words of a chart of so many hours, the first at column `left`. The last hour of `worn` comes
+    after the others were drawn, which then move by one."""
+    at = lambda hour: left + 3 * hour
     shade = lambda minutes: c['bar'] if minutes >= 30 else c['low']
-    x, y, w, h = WINDOW
-    number = glyphs(str(sum(WORN[1:]) // 60) + 'h', c['ink'], c['box'])
+    def bar(hour, minutes, colour):
+        height = 1 + minutes * 2 // 3
+        return command(FILL, MAIN, at(hour), 56 - height, 2, height, colour=colour)
+    w, h = WINDOW
+    *before, new = worn
+    number = glyphs(str(sum(worn[-24:]) // 60) + 'h', c['ink'], c['box'])
     marker = [[c['new'] if bit == '1' else c['paper'] for bit in row] for row in MARKER]
-    commands = [command(FILL, MAIN, 0, 0, WIDTH, HEIGHT, colour=c['paper']),
-                command(FILL, MAIN, 10, 56, 76, 1, colour=c['line']),
-                command(FILL, MAIN, 10, 15, 1, 42, colour=c['line'])]
-    commands += [command(FILL, MAIN, 12 + 18 * i, 57, 2, 2, colour=c['line']) for i in range(4)]
-    commands += [bar(i, minutes, shade(minutes)) for i, minutes in enumerate(WORN[:24])]
-    commands += [command(MOVE, MAIN, 12, 15, 69, 41, raster=COPY, source=(15, 15)),      # one column to the left
-                 command(FILL, MAIN, 81, 15, 3, 41, colour=c['paper']),
-                 bar(23, WORN[24], c['new']),
-                 command(WRITE, MAIN, 80, 10, 5, 3, raster=COPY),                        # the marker over the newest hour
+    commands = [command(FILL, MAIN, 0, 0, width, HEIGHT, colour=c['paper']),
+                command(FILL, MAIN, left - 2, 56, 3 * hours + 4, 1, colour=c['line']),
+                command(FILL, MAIN, left - 2, 15, 1, 42, colour=c['line'])]
+    commands += [command(FILL, MAIN, at(i), 57, 2, 2, colour=c['line']) for i in range(0, hours, 6)]
+    commands += [bar(hours - len(before) + i, minutes, shade(minutes)) for i, minutes in enumerate(before)]
+    commands += [command(MOVE, MAIN, left, 15, 3 * (hours - 1), 41, raster=COPY, source=(at(1), 15)),    # one column to the left
+                 command(FILL, MAIN, at(hours - 1), 15, 3, 41, colour=c['paper']),
+                 bar(hours - 1, new, c['new']),
+                 command(WRITE, MAIN, at(hours - 1) - 1, 10, 5, 3, raster=COPY),         # the marker over the newest hour
                  command(FILL, SMALL, 0, 0, w, h, colour=c['box']),
-                 command(WRITE, SMALL, 3, 2, len(number[0]), 7, raster=COPY)]            # the hours worn
+                 command(WRITE, SMALL, 3, 2, len(number[0]), 7, raster=COPY)]            # the hours worn of the last 24
     words = words_of(marker, depth) + words_of(number, depth)
     return b''.join(commands), struct.pack(f'<{len(words)}H', *words)
 
@@ -88,21 +94,30 @@ def write(name, data):
     (HERE / name).write_bytes(data)
 
 
-commands, words = chart(8, GREY)
+commands, words = chart(8, GREY, WORN, 24, WIDTH, 12)
 write('chart.list', commands)
 write('chart.words', words)
 write('upright.screen', screen(8, 0, WIDTH, HEIGHT))
 write('turned-90.screen', screen(8, 1, HEIGHT, WIDTH))
 write('turned-180.screen', screen(8, 2, WIDTH, HEIGHT))
 write('turned-270.screen', screen(8, 3, HEIGHT, WIDTH))
-in_colour, more_words = chart(16, COLOUR)
+in_colour, colour_words = chart(16, COLOUR, WORN, 24, WIDTH, 12)
 write('colour.list', in_colour)
-write('colour.words', more_words)
+write('colour.words', colour_words)
 write('colour.screen', screen(16, 0, WIDTH, HEIGHT))
 write('colour-90.screen', screen(16, 1, HEIGHT, WIDTH))
+wide, wide_words = chart(16, COLOUR, TWO_DAYS, 48, WIDE, 24)
+write('wide.list', wide)
+write('wide.words', wide_words)
+write('wide.screen', screen(16, 0, WIDE, HEIGHT, whole=WIDE))
+half = dict(place=(72, 20), whole=WIDE, first=WIDE - WIDTH, line=WIDE)
+part = screen(16, 0, WIDTH, HEIGHT, **half)
+write('part.screen', part)
+write('part-90.screen', screen(16, 1, HEIGHT, WIDTH, **half))
 
 write('damaged.screen', screen(8, 0, WIDTH + 4, HEIGHT))           # a panel width that is no multiple of 8: refused 4
 at = 7 * 32 + 10                                                   # command 7, the first bar: its height
 write('damaged.list', commands[:at] + struct.pack('<H', 60) + commands[at + 2:])     # past the view's last line: refused 14 7
 write('damaged.words', words[:-2])                                 # one word short: refused 15 at the last write
 write('odd.words', words[:-1])                                     # half a word: a message, and no output
+write('damaged-length.screen', part[:24] + struct.pack('<H', WIDE - 1) + part[26:])  # a line that is no multiple of 2: refused 26

@@ -10,7 +10,8 @@ use lib.Seq.{sets}
 use Rattle.io.specs.Counts.{Counts}
 use Rattle.text.specs.Lines.{joined, wordOf}
 use Rattle.text.proofs.Stored.{counts}
-use Rattle.files.specs.System.{YesOrNo, LoadedBytes, LoadedWords}
+use Rattle.files.specs.System.{YesOrNo, LoadedBytes, LoadedWords, LoadedMemory}
+use Rattle.files.specs.declared.Loaded.{Loaded}
 
 pub yes-or-no : (answer : Bool) → YesOrNo answer
 yes-or-no true = inl refl
@@ -38,3 +39,10 @@ words-loaded old new bytes m n room all most even f h e =
 pub none-loaded : (old : List ℕ) (ok : Bool) → LoadedWords old old (record { ok = ok; n = 0 })
 unfolding joined
 none-loaded old ok = record { bytes = []; pairs = refl; words = refl; within = counts 0 old (omega arith); failed = λ _. refl }
+
+-- ---- the display memory
+pub left-out : (old : List ℕ) (n : ℕ) → Counts n old → n ≡ min 262144 (length old) → LoadedMemory old old (record { ok = true; n = n })
+left-out old n h e = record { within = h; either = inl (record { ok = refl; count = e; same = refl }) }
+
+pub from-file : (old new : List ℕ) (r : Loaded) → LoadedBytes old new r → LoadedMemory old new r
+from-file old new r l = record { within = l .within; either = inr l }

@@ -1,5 +1,5 @@
 -- What the system decides, and what holds of it.
-use Prim.Native.Nat.{ℕ, _*_}
+use Prim.Native.Nat.{ℕ, _*_, min}
 use mathlib.Core.Path.{_≡_}
 use mathlib.Core.Bool.{Bool, true, false}
 use mathlib.Core.Logic.{_⊎_}
@@ -28,3 +28,15 @@ pub record LoadedWords (old new : List ℕ) (r : Loaded) : Type 0 where
   pub words : new ≡ sets old 0 (joined (wordOf bytes) (r .n))
   pub within : Counts (r .n) new
   pub failed : r .ok ≡ false → r .n ≡ 0
+
+-- ---- the display memory before the drawing
+-- the buffer as it was, 262,144 bytes of it or all where it has fewer
+pub record Untouched (old new : List ℕ) (r : Loaded) : Type 0 where
+  pub ok : r .ok ≡ true
+  pub count : r .n ≡ min 262144 (length old)
+  pub same : new ≡ old
+
+-- a file's bytes, or, where the file is left out, the buffer as it was: which of the two, the system says
+pub record LoadedMemory (old new : List ℕ) (r : Loaded) : Type 0 where
+  pub within : Counts (r .n) new
+  pub either : Untouched old new r ⊎ LoadedBytes old new r

@@ -2,7 +2,7 @@
 // and whether it can be read or written, are the system's: a contract names them, and says what holds of them.
 ghost use mathlib.Core.Path.{_≡_};
 ghost use lib.ListN.{length, replicate};
-ghost use Rattle.files.specs.System.{YesOrNo, LoadedBytes, LoadedWords};
+ghost use Rattle.files.specs.System.{YesOrNo, LoadedBytes, LoadedWords, LoadedMemory};
 use libc::STDERR_FILENO;
 use libc::STDOUT_FILENO;
 
@@ -37,6 +37,14 @@ pub fn stream() -> [u8; 2097152]
     ensures { λ r. ⌜ 2097152 ≡ length r ⌝ }
 {
     [0; 2097152]
+}
+
+// Room for a display memory, and one byte more, so that a longer file is seen.
+pub fn memory() -> [u8; 262145]
+    ensures { λ r. ⌜ r ≡ replicate 262145 0 ⌝ }
+    ensures { λ r. ⌜ 262145 ≡ length r ⌝ }
+{
+    [0; 262145]
 }
 
 // Writes a line to standard error: what is wrong, and how.
@@ -141,4 +149,15 @@ pub fn load_words(i: usize, words: &mut [u16; 262144]) -> Loaded
     }
     let k = text_lines::words_of(&bytes[..n], words);
     Loaded { ok: true, n: k }
+}
+
+// The display memory of the file that argument i names; 262,144 bytes as they are where it is left out.
+pub fn load_memory(i: usize, memory: &mut [u8]) -> Loaded
+    ensures { λ r. ⌜ LoadedMemory (now (memory .entry)) (now (memory .exit)) r ⌝ }
+{
+    if is_left_out(i) {
+        let n = io::count(262144, memory);
+        return Loaded { ok: true, n };
+    }
+    load(i, memory)
 }

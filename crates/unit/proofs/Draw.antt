@@ -1,19 +1,19 @@
 -- Drawing in one call: what compiling and playing give together, in terms of the sheet.
 use mathlib.Core.Path.{_≡_, refl, sym, ap, _∙_}
-use mathlib.Core.Bool.{Bool, true, false, true≢false}
-use mathlib.Core.List.{List}
+use mathlib.Core.Bool.{Bool, true, false, true≢false, cond}
+use mathlib.Core.List.{List, []}
 use Prim.Native.Nat.{ℕ, _-_, _≤_}
 use native.Mathlib.Nat.{sub-zero}
 use native.Mathlib.Omega.{arith}
 use lib.ListN.{length, take}
 use borrow.Author.Tests.{eq-eqb, ne-eqb}
-use Rattle.record.specs.Lists.{AllBelow}
+use Rattle.record.specs.Lists.{AllBelow, partsFrom, partsOf}
 use Rattle.screen.specs.Screen.{memorySize}
 use Rattle.screen.specs.Values.{valuesOf}
 use Rattle.screen.specs.declared.ScreenValues.{ScreenValues}
 use Rattle.record.specs.Record.{streamBytes}
 use Rattle.record.proofs.Stores.{length-stream, length-over}
-use Rattle.command.specs.Task.{Task, screenIn}
+use Rattle.command.specs.Task.{Task, task, screenIn}
 use Rattle.compiler.specs.Stream.{recordsIn}
 use Rattle.compiler.specs.Compile.{streamOf, Compiling, compiling, bufferAfter, compilingOf, answerOf}
 use Rattle.compiler.specs.declared.Compiled.{Compiled}
@@ -24,6 +24,7 @@ use Rattle.chip.specs.declared.Played.{Played}
 use Rattle.chip.specs.declared.Played.the-variants as played
 use Rattle.unit.specs.Demands.{InBytes, DrawnTruly, streamGiven}
 use Rattle.unit.specs.Draw.{Drawing, refusedBy, drawing, memoryDrawn, streamDrawn, drawingOf, answerOf as unit·answerOf}
+use Rattle.unit.specs.Sheet.{sheetCommands, sheetAfter}
 use Rattle.unit.specs.declared.Drawn.{Drawn}
 use Rattle.unit.specs.declared.Drawn.the-variants.{Accepted, Refused}
 use Rattle.unit.proofs.Demands.{demand-3, values-given}
@@ -58,6 +59,16 @@ refused-answer n i d h e = (e, rw (← e) (rw (ne-eqb n 0 h) refl))
 accepted-answer : (n : ℕ) (v : ScreenValues) (d : Drawing) → drawingOf (Accepted n v) ≡ d → (drawingOf (Accepted n v) ≡ d) × (Accepted n v ≡ unit·answerOf d)
 unfolding drawingOf unit·answerOf
 accepted-answer n v d e = (e, rw (← e) refl)
+
+-- both cases alike
+alike : (b : Bool) (x : List ℕ) → cond b x x ≡ x
+alike true x = refl
+alike false x = refl
+
+-- an empty list without words changes nothing: accepted, the memory is the sheet after no commands; refused, it is as it was
+pub nothing-drawn : (m : ℕ) (v : List ℕ) (room : ℕ) (old : List ℕ) → memoryDrawn m (task v [] []) room old ≡ old
+unfolding memoryDrawn sheetAfter sheetCommands partsOf partsFrom
+nothing-drawn m v room old = simp alike
 
 module _ (t : Task) (old memory : List ℕ) where
   -- an answer, a stream buffer and a memory that are what drawing promises

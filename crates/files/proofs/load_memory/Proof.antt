@@ -1,7 +1,7 @@
-use Rattle.panel.proofs.Memory.{left-out, from-file}
+use Rattle.files.proofs.System.{left-out, from-file}
 use borrow.Author.Needs.{needs}
-use Rattle.panel.proofs.load_memory.Statement.{statement}
-use Rattle.panel.proofs.load_memory.Tie as tie
+use Rattle.files.proofs.load_memory.Statement.{statement}
+use Rattle.files.proofs.load_memory.Tie as tie
 
 is-left-out-requires : tie.Need-is-left-out-requires
 is-left-out-requires c κs = search needs
