@@ -1,15 +1,14 @@
 -- A record whose line lengths are 0 means what 01 says.
 use Prim.Native.Nat.{ℕ, _+_, _-_, _*_, _/_, _<_}
-use mathlib.Core.Path.{_≡_, refl, sym, ap, _∙_}
-use mathlib.Core.Bool.{Bool, true, false, not, _&&_, cond}
+use mathlib.Core.Path.{_≡_, refl, ap, _∙_}
+use mathlib.Core.Bool.{Bool, true, false, not, _&&_}
 use mathlib.Core.List.{List}
 use native.Mathlib.Omega.{arith}
-use lib.Dec.{eqb}
 use borrow.Author.Tests.{eq-eqb}
 use Rattle.record.specs.Checks.{firstOf}
 use Rattle.pixel.specs.Depth.{isDepth, perDword}
 use Rattle.pixel.proofs.Depth.{full}
-use Rattle.screen.specs.Image.{lineBytes, linePixels, byRotation, startOf}
+use Rattle.screen.specs.Image.{lineBytes, linePixels, startOf}
 use Rattle.screen.specs.Screen.{wholeDwords, mainImage, windowImage, lineOk, windowed, fieldsOf, fieldRows, screenRows}
 use Rattle.screen.specs.Values.{originOf, valuesOf}
 use Rattle.screen.specs.Shown.{shownStart, without, NoLengths, As01, ShownWidths}

@@ -1,4 +1,4 @@
-use Rattle.record.specs.Checks.{firstOf, rowsWith}
+use Rattle.record.specs.Checks.{rowsWith}
 use Rattle.screen.specs.Screen.{fieldRows}
 use borrow.Author.Needs.{needs}
 use Rattle.screen_code.proofs.first_fault.Statement.{statement}
