@@ -99,8 +99,11 @@ fn line_pixels(given: u16, width: u16) -> u16
 fn is_line(depth: u8, given: u16, width: u16) -> bool
     ensures { λ r. ⌜ r ≡ lineOk depth given width ⌝ }
 {
+    if given == 0 {
+        return true;
+    }
     let whole = is_whole(depth as u32, given as u32);
-    (given == 0) | ((width <= given) & (whole & (line_bytes(depth, given) <= 4 * 1023)))
+    (width <= given) & (whole & (line_bytes(depth, given) <= 4 * 1023))
 }
 
 // The main image.

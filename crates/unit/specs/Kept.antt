@@ -49,7 +49,7 @@ pub record Kept : Type 0 where
   pub gap : (screen : List ℕ) (left : ℕ) (b words sheet : List ℕ) (a : ℕ) → Fit screen left b
       → let s = fieldsOf screen in inGap (s .depth) (surfaceOf s (commandOf b)) a ≡ true
       → byteAt (sheetCommand s (commandOf b) words sheet) a ≡ byteAt sheet a
-  -- and so does a whole list, compiled and played
+  -- nor does a whole list, compiled and played, change a byte that is a shown one of none of its surfaces
   pub list : (t : Task) (buffer memory : List ℕ) (a : ℕ) → InBytes t → AllBelow 256 memory
       → length memory ≡ memorySize → compiling memorySize t (length buffer) .number ≡ 0
       → outside (screenIn t) (commandsIn t) a ≡ true
