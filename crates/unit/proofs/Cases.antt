@@ -1,6 +1,8 @@
 -- 01's cases, and those of line lengths: one list, one claim, computed.
+use Prim.Native.Nat.{_+_}
 use mathlib.Core.Path.{_≡_, refl}
 use mathlib.Core.Bool.{true}
+use lib.ListN.{length}
 use Rattle.record.specs.Bytes.{allZero}
 use Rattle.record.specs.Checks.{firstOf}
 use Rattle.record.specs.Record.{recordBytes, streamBytes, recordAt, recordsFrom, recordsOf}
@@ -30,3 +32,8 @@ use Rattle.unit.specs.Cases.{drawCases, cases}
 pub cases-hold : allHold cases ≡ true
 unfolding allZero firstOf recordBytes streamBytes recordAt recordsFrom recordsOf isDepth getPixel putPixel byteOf bitwise imageEnd startOf fieldsOf wellFormed panelOk viewWidth viewHeight wholeDwords mainImage windowImage lineOk imageOk windowOk windowWhole fieldRows screenRows screenOf windowX windowY originOf valuesOf allHold screenCases lineCases pixels chipLine chipLines chipBlit wordPixel hostPixel chipWord listed fits screenAfter blitAfter startable span within sourceFits mixBy fromBy jobOf blitOf writeOf started admitRows admit·refusal dueAfter dueOf chipAfter effect newChip run applied ending playing played commandOf commandBytes surfaceOf mustBeZero formed insideImage placed lineWords wordsTaken commandRows refusal addressOf destinationOf sourceOf isNegative lastColumn lastLine commandValue sourceValue destinationValue controlValue blitValues partsFrom partsOf recordsWith screenRecords dataRecords commandRecords drawRecords recordsFor listRows firstRefusal allWords wordRows taskRefusal roomRows refusalOf compiling streamOf sheetPixel sheet·hostPixel sheetSource sheetMix newPixel changes sheetByte sheetCommand sheetCommands sheetAfter drawCases cases
 cases-hold = refl
+
+-- none is left out: ten of S1 to S9, thirty of line lengths, B1 on short and long lines, B2 and B3
+pub all-of-them : length cases ≡ 10 + 30 + 4
+unfolding screenCases lineCases drawCases cases
+all-of-them = refl
