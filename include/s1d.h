@@ -1,9 +1,11 @@
 /* S1D13A05 display unit: compiling a drawing list, playing its stream over a display memory, whole or
- * in small blocks, and reading what a panel point shows. docs/FORMATS.md has the records, registers
- * and pixels by bytes and bits, and docs/TRUST.md what is proved and what is assumed.
+ * in small blocks, and reading what a panel point shows; and, where a name begins with s1d06, the same
+ * of the older units' S1D13706, which has no blits, so no commands and no player. docs/FORMATS.md has
+ * the records, registers and pixels by bytes and bits, and docs/TRUST.md what is proved and what is
+ * assumed.
  *
- * Pointers. Each pointer is followed by its length in elements, but for values, which has six, and
- * player, which is one. It is valid for that length, and not null even where the length is 0. A buffer
+ * Pointers. Each pointer is followed by its length in elements, but for values, which has six, bytes,
+ * which has eighteen, and player, which is one. It is valid for that length, and not null even where the length is 0. A buffer
  * that is written overlaps no other one of the same call. No function keeps a pointer, allocates, or
  * blocks.
  *
@@ -28,6 +30,9 @@ extern "C" {
 #define S1D_STREAM_RECORD_LENGTH 8 /* bytes of a stream record */
 #define S1D_BLOCK_LENGTH 64        /* most bytes of a block that s1d_feed takes */
 #define S1D_MEMORY_LENGTH 262144   /* bytes of the display memory */
+#define S1D06_MEMORY_LENGTH 81920  /* bytes of the S1D13706's display memory */
+#define S1D06_REGISTERS 18         /* its display registers, a byte each */
+#define S1D06_STREAM_LENGTH 144    /* bytes of its stream: a record for each of them */
 
 /* Bytes of the stream of so many commands and host words: six records for the screen, nine for each
  * command and one for each word. */
@@ -63,7 +68,8 @@ enum s1d_raster {
  * Refusals. The first whose text holds is given, in the order of the numbers, but that 26 is checked
  * after 5 for main and after 8 for the window, and that commands (12 to 15) and stream records (20 to
  * 23) are checked one after another; s1d_read_point, s1d_draw, s1d_feed and s1d_end name their own
- * order. 7 to 9, and 26 for the window, apply with flag 1 only.
+ * order. 7 to 9, and 26 for the window, apply with flag 1 only. The functions of the S1D13706 ask 6, 9
+ * and 18 with 81920, 25 with 20479, and give 11 for any list that is not empty.
  *
  * place is the command's index for 12 to 15, the stream record's for 20 to 23, else 0. Both count
  * from 0. */
@@ -146,6 +152,10 @@ typedef struct s1d_player {
     uint64_t place;      /* the kept answer's place */
 } s1d_player;
 
+typedef struct s1d_values {
+    uint32_t values[6]; /* as in s1d_played */
+} s1d_values;
+
 typedef struct s1d_point {
     uint32_t number;
     uint32_t colour; /* the pixel as a number of depth bits */
@@ -210,6 +220,26 @@ s1d_drawn s1d_draw(const uint8_t *screen, size_t screen_length,
                    const uint16_t *words, size_t words_length,
                    uint8_t *stream, size_t stream_length,
                    uint8_t *memory, size_t memory_length);
+
+/* Compiles a screen record into the byte writes of the S1D13706: a record for each register, its number
+ * and a byte, in the order 74h 75h 76h main start; 78h 79h main offset; 7Ch 7Dh 7Eh window start; 80h 81h
+ * window offset; 84h 85h window X start; 88h 89h Y start; 8Ch 8Dh X end; 90h 91h Y end, each value's lowest
+ * byte first, and the window's all 0 with flag 0. The answer is s1d_compile's; no part of the list is
+ * ever refused. Refusals 1 to 9 and 26, 10, 11 (the list is not empty), 16 (there is a host word), 17. */
+s1d_compiled s1d06_compile(const uint8_t *screen, size_t screen_length,
+                           const uint8_t *list, size_t list_length,
+                           const uint16_t *words, size_t words_length,
+                           uint8_t *stream, size_t stream_length);
+
+/* The six values that the S1D13706's registers make, given their bytes in the order of s1d06_compile: a
+ * position is its start + 65536 x its end, and nothing is masked. Any bytes have values. */
+s1d_values s1d06_values(const uint8_t bytes[S1D06_REGISTERS]);
+
+/* As s1d_read_point, of the S1D13706's memory. */
+s1d_point s1d06_read_point(uint32_t depth, uint32_t rotation, uint32_t flag,
+                           uint32_t width, uint32_t height, const uint32_t values[6],
+                           uint32_t p, uint32_t q,
+                           const uint8_t *memory, size_t memory_length);
 
 #ifdef __cplusplus
 }

@@ -34,10 +34,14 @@ screenIn t = fieldsOf (t .screen)
 abbrev pub commandsIn : Task → List (List ℕ)
 commandsIn t = partsOf (t .size) (t .list)
 
+-- a list of whole records, at most 64
+abbrev pub isList : ℕ → List ℕ → Bool
+isList size list = eqb (length list % size) 0 && leb (length list) (64 * size)
+
 -- rows 10 and 11
 unfoldable pub listRows : ℕ → Screen → List ℕ → List Row
 listRows size s list =
-    row 10 (not (eqb (length list % size) 0 && leb (length list) (64 * size)))
+    row 10 (not (isList size list))
     ∷ row 11 (ltb 0 (length list) && ltb (s .depth) 8)
     ∷ []
 

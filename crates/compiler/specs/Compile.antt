@@ -7,6 +7,7 @@ use lib.Dec.{ltb, eqb}
 use Rattle.record.specs.Bytes.{over}
 use Rattle.record.specs.Record.{streamBytes}
 use Rattle.record.specs.Checks.{Row, row, firstOf, Refusal}
+use Rattle.screen.specs.declared.Screen.{Screen}
 use Rattle.command.specs.Task.{Task, screenIn, taskRefusal, isAccepted}
 use Rattle.compiler.specs.Stream.{recordsIn}
 use Rattle.compiler.specs.declared.Compiled.{Compiled}
@@ -33,21 +34,26 @@ pub record Compiling : Type 0 where
 abbrev pub refusedBy : ℕ → ℕ → Compiling
 refusedBy n i = record { number = n; place = i; length = 0; depth = 0; rotation = 0; flag = 0 }
 
-unfoldable pub compiling : ℕ → Task → ℕ → Compiling
-compiling m t room =
-    let s = screenIn t in
-    let r = refusalOf m t room in
+-- the answer of a first refusal, or of a screen and its stream of so many bytes where there is none
+abbrev pub answered : Refusal → Screen → ℕ → Compiling
+answered r s size =
     cond (eqb (r .number) 0)
-    (record { number = 0; place = 0; length = 8 * length (recordsIn t); depth = s .depth; rotation = s .rotation; flag = s .flag })
+    (record { number = 0; place = 0; length = size; depth = s .depth; rotation = s .rotation; flag = s .flag })
     (refusedBy (r .number) (r .place))
+
+unfoldable pub compiling : ℕ → Task → ℕ → Compiling
+compiling m t room = answered (refusalOf m t room) (screenIn t) (8 * length (recordsIn t))
 
 -- the stream's bytes
 unfoldable pub streamOf : Task → List ℕ
 streamOf t = streamBytes (recordsIn t)
 
--- the buffer afterwards: the stream, and past it its old bytes; on refusal what it held
+-- the buffer after an answer: the stream, and past it its old bytes; on refusal what it held
+abbrev pub bufferWith : Compiling → List ℕ → List ℕ → List ℕ
+bufferWith c stream old = cond (eqb (c .number) 0) (over stream old) old
+
 unfoldable pub bufferAfter : ℕ → Task → List ℕ → List ℕ
-bufferAfter m t old = cond (eqb (compiling m t (length old) .number) 0) (over (streamOf t) old) old
+bufferAfter m t old = bufferWith (compiling m t (length old)) (streamOf t) old
 
 -- 01's numbers of an answer: of a refusal all but number and place are 0
 unfoldable pub compilingOf : Compiled → Compiling

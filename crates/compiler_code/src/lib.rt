@@ -79,7 +79,7 @@ pub fn refused_part<'a>(list: &'a [u8], c: Compiled) -> &'a [u8]
 }
 
 // Stores an answer's numbers.
-fn store(answer: &mut [u64; 6], c: Compiled)
+pub fn store(answer: &mut [u64; 6], c: Compiled)
     ensures { λ _. ⌜ now (answer .exit) ≡ numbersOf (compilingOf c) ⌝ }
 {
     match c {

@@ -77,7 +77,7 @@ pub fn first_pass(s: Screen, list: &[u8], left: u64) -> Pass
 }
 
 // Stores records of register numbers and their values from `at` on.
-fn put_records(buffer: &mut [u8], at: usize, numbers: &[u32], values: &[u64])
+pub fn put_records(buffer: &mut [u8], at: usize, numbers: &[u32], values: &[u64])
     requires { ⌜ length (now numbers) ≡ length (now values) ⌝ }
     requires { ⌜ at + 8 * length (now values) ≤ length (now buffer) ⌝ }
     ensures { λ _. ⌜ now (buffer .exit) ≡ sets (now (buffer .entry)) at (streamBytes (recordsWith (now (numbers .entry)) (now (values .entry)))) ⌝ }

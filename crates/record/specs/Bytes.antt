@@ -13,6 +13,10 @@ byteAt s at = getD s at 0
 abbrev pub u16At : List ℕ → ℕ → ℕ
 u16At s at = byteAt s at + 256 * byteAt s (at + 1)
 
+-- the number in three bytes
+abbrev pub u24At : List ℕ → ℕ → ℕ
+u24At s at = u16At s at + 65536 * byteAt s (at + 2)
+
 -- the number in four bytes
 abbrev pub u32At : List ℕ → ℕ → ℕ
 u32At s at = u16At s at + 65536 * u16At s (at + 2)
@@ -20,6 +24,10 @@ u32At s at = u16At s at + 65536 * u16At s (at + 2)
 -- the two bytes of a number
 abbrev pub twoBytes : ℕ → List ℕ
 twoBytes v = v % 256 ∷ v / 256 % 256 ∷ []
+
+-- the three bytes of a number
+abbrev pub threeBytes : ℕ → List ℕ
+threeBytes v = v % 256 ∷ v / 256 % 256 ∷ v / 65536 % 256 ∷ []
 
 -- the four bytes of a number
 abbrev pub fourBytes : ℕ → List ℕ

@@ -3,7 +3,7 @@ ghost use mathlib.Core.Path.{_≡_};
 ghost use Prim.Native.Nat.{_+_, _-_, _*_, _/_, _%_, _≤_, _<_, min};
 ghost use lib.ListN.{length};
 ghost use lib.Seq.{sets};
-ghost use Rattle.record.specs.Bytes.{u16At, u32At, fourBytes, allZero};
+ghost use Rattle.record.specs.Bytes.{u16At, u24At, u32At, fourBytes, allZero};
 ghost use Rattle.record.specs.Record.{recordBytes, recordAt};
 ghost use Rattle.record.specs.Checks.{rowsWith, anyOf, firstOf};
 use record::Record;
@@ -23,6 +23,16 @@ pub fn u16_at(b: &[u8], at: usize) -> u16
     let low = wide(b[at]);
     let high = wide(b[at + 1]);
     (low + 256 * high) as u16
+}
+
+// The number in three bytes, the lowest first.
+pub fn u24_at(b: &[u8], at: usize) -> u32
+    requires { ⌜ at + 3 ≤ length (now b) ⌝ }
+    ensures { λ r. ⌜ r ≡ u24At (now (b .entry)) at ⌝ }
+{
+    let low = u16_at(b, at) as u32;
+    let high = wide(b[at + 2]);
+    low + 65536 * high
 }
 
 // The number in four bytes, the lowest first.

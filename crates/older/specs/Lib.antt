@@ -1,0 +1,3 @@
+pub mod Bytes
+pub mod Compile
+pub mod Cases
