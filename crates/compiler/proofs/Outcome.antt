@@ -21,7 +21,7 @@ use Rattle.command.specs.Task.{Task, screenIn, commandsIn, listRows, firstRefus
 use Rattle.command.proofs.Commands.{all-fine, words-suffice}
 use Rattle.command.proofs.Task.{list-says, words-left, words-fit, by-screen, by-list, by-command, by-end}
 use Rattle.compiler.specs.Stream.{screenRecords, drawRecords, recordsFor, recordsIn}
-use Rattle.compiler.specs.Compile.{roomRows, refusalOf, refusedBy, compiling, streamOf, bufferAfter, compilingOf, answerOf}
+use Rattle.compiler.specs.Compile.{roomRows, refusalOf, Compiling, answered, compiling, streamOf, bufferWith, bufferAfter, compilingOf, answerOf}
 use Rattle.compiler.specs.Pass.{passOf}
 use Rattle.compiler.specs.declared.Pass.{Pass}
 use Rattle.compiler.specs.declared.Compiled.{Compiled}
@@ -54,35 +54,41 @@ module _ (m : ℕ) (t : Task) (room : ℕ) where
   by-room e = rw e
 
   -- ---- the answer to it
-  pub refused-is : (n i : ℕ) → 0 < n → refusalOf m t room ≡ record { number = n; place = i } → compiling m t room ≡ refusedBy n i
-  unfolding compiling
-  refused-is n i h e = rw (e, ne-eqb n 0 (λ z. omega arith))
-
   pub accepted-is : refusalOf m t room .number ≡ 0 → compiling m t room ≡ record { number = 0; place = 0; length = 8 * length (recordsIn t); depth = screenIn t .depth; rotation = screenIn t .rotation; flag = screenIn t .flag }
   unfolding compiling
   accepted-is e = rw e
 
 -- an answer with all its numbers, and the buffer that goes with it
+abbrev pub ToldBy : Compiling → List ℕ → List ℕ → Compiled → List ℕ → Type 0
+ToldBy c stream old r new = (compilingOf r ≡ c) × ((r ≡ answerOf c) × (new ≡ bufferWith c stream old))
+
+module _ (r : Refusal) (s : Screen) (size : ℕ) (stream old : List ℕ) where
+  pub refused-by : (n i : ℕ) → 0 < n → r ≡ record { number = n; place = i } → ToldBy (answered r s size) stream old (Refused n i) old
+  unfolding compilingOf answerOf
+  refused-by n i h e = let z : eqb n 0 ≡ false = ne-eqb n 0 (λ z. omega arith) in rw (e, z) (refl, (rw z, rw z))
+
+  pub accepted-by : r .number ≡ 0 → length stream ≤ length old → (new : List ℕ) → new ≡ sets old 0 stream
+      → ToldBy (answered r s size) stream old (Accepted size (s .depth) (s .rotation) (s .flag)) new
+  unfolding compilingOf answerOf
+  accepted-by e h new f = rw e (refl, (refl, f ∙ sets-over old stream h))
+
 abbrev pub Told : ℕ → Task → List ℕ → Compiled → List ℕ → Type 0
 Told m t old r new = (compilingOf r ≡ compiling m t (length old)) × ((r ≡ answerOf (compiling m t (length old))) × (new ≡ bufferAfter m t old))
 
 module _ (m : ℕ) (t : Task) (old : List ℕ) where
   refused-told : (n i : ℕ) → 0 < n → refusalOf m t (length old) ≡ record { number = n; place = i } → Told m t old (Refused n i) old
-  unfolding compilingOf answerOf bufferAfter
-  refused-told n i h e =
-      let f = refused-is m t (length old) n i h e in
-      let z : eqb n 0 ≡ false = ne-eqb n 0 (λ z. omega arith) in
-      rw f (refl, (rw z, rw z))
+  unfolding compiling bufferAfter
+  refused-told n i h e = refused-by (refusalOf m t (length old)) (screenIn t) (8 * length (recordsIn t)) (streamOf t) old n i h e
 
   task-told : (n i : ℕ) → 0 < n → taskRefusal m t ≡ record { number = n; place = i } → Told m t old (Refused n i) old
   task-told n i h e = refused-told n i h (by-task m t (length old) n i h e)
 
   accepted-told : (size : ℕ) (new : List ℕ) → refusalOf m t (length old) .number ≡ 0 → size ≡ 8 * length (recordsIn t) → size ≤ length old → new ≡ sets old 0 (streamBytes (recordsIn t))
       → Told m t old (Accepted size (screenIn t .depth) (screenIn t .rotation) (screenIn t .flag)) new
-  unfolding compilingOf answerOf bufferAfter streamOf
+  unfolding compiling bufferAfter streamOf
   accepted-told size new e k h f =
       let fits : length (streamBytes (recordsIn t)) ≤ length old = omega (arith, length-stream (recordsIn t)) in
-      rw (accepted-is m t (length old) e, k) (refl, (refl, f ∙ sets-over old (streamBytes (recordsIn t)) fits))
+      rw k (accepted-by (refusalOf m t (length old)) (screenIn t) (8 * length (recordsIn t)) (streamBytes (recordsIn t)) old e fits new f)
 
 -- ---- the first pass
 -- its number and place are the first refusal's
@@ -101,7 +107,7 @@ size-is : (s : Screen) (commands : List (List ℕ)) (words : List ℕ) → first
 size-is s commands words e = omega (arith, length-records s words commands (words-suffice s (length words) commands (all-fine s 0 (length words) commands e)))
 
 -- ---- each way to an answer, as the code goes
-refused-screen : (m : ℕ) (bytes : List ℕ) (n : ℕ) → screenOf m bytes ≡ screen-answer.Refused n → (firstOf (screenRows m bytes) ≡ n) × (0 < n)
+pub refused-screen : (m : ℕ) (bytes : List ℕ) (n : ℕ) → screenOf m bytes ≡ screen-answer.Refused n → (firstOf (screenRows m bytes) ≡ n) × (0 < n)
 unfolding screenOf
 refused-screen m bytes n e = chosen (eqb (firstOf (screenRows m bytes)) 0) refl e
   where
