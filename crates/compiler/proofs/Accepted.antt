@@ -1,6 +1,6 @@
 -- What acceptance says of the whole, and where a refusal stands.
 use Prim.Native.Nat.{ℕ, _+_, _*_, _/_, _<_, _≤_}
-use mathlib.Core.Path.{_≡_, refl}
+use mathlib.Core.Path.{_≡_, refl, sym, _∙_}
 use mathlib.Core.Bool.{Bool, true, false, cond}
 use mathlib.Core.Logic.{_⊎_, inl, inr}
 use native.Mathlib.Omega.{arith}
@@ -15,7 +15,8 @@ use Rattle.command.proofs.Task.{Accepted as TaskAccepted, accepted-says, Placed
 use Rattle.compiler.specs.Stream.{recordsIn}
 use Rattle.compiler.specs.Compile.{roomRows, refusalOf, refusedBy, Compiling, compiling}
 use Rattle.compiler.proofs.Lengths.{length-records}
-use Rattle.compiler.proofs.Outcome.{room-says, accepted-is}
+use Rattle.compiler.proofs.Outcome.{room-says}
+use Rattle.compiler.proofs.Answered.{answered-number, answered-accepted}
 
 -- a task that is accepted with a stream buffer of `room` bytes
 pub record Accepted (m : ℕ) (t : Task) (room : ℕ) : Type 0 where
@@ -35,17 +36,15 @@ no-number n r e = chosen (eqb (r .number) 0) refl e
 module _ (m : ℕ) (t : Task) (room : ℕ) where
   not-refused : compiling m t room .number ≡ 0 → refusalOf m t room .number ≡ 0
   unfolding compiling
-  not-refused e = chosen (eqb (refusalOf m t room .number) 0) refl e
-    where
-      chosen : (b : Bool) → eqb (refusalOf m t room .number) 0 ≡ b
-          → cond b (record { number = 0; place = 0; length = 8 * length (recordsIn t); depth = screenIn t .depth; rotation = screenIn t .rotation; flag = screenIn t .flag }) (refusedBy (refusalOf m t room .number) (refusalOf m t room .place)) .number ≡ 0
-          → refusalOf m t room .number ≡ 0
-      chosen true h k = eqb-true (refusalOf m t room .number) 0 h
-      chosen false h k = k
+  not-refused e = sym (answered-number (refusalOf m t room) (screenIn t) (8 * length (recordsIn t))) ∙ e
 
   both-pass : refusalOf m t room .number ≡ 0 → (taskRefusal m t .number ≡ 0) × (firstOf (roomRows t room) ≡ 0)
   unfolding refusalOf
   both-pass e = no-number (firstOf (roomRows t room)) (taskRefusal m t) e
+
+  compiling-is : refusalOf m t room .number ≡ 0 → compiling m t room ≡ record { number = 0; place = 0; length = 8 * length (recordsIn t); depth = screenIn t .depth; rotation = screenIn t .rotation; flag = screenIn t .flag }
+  unfolding compiling
+  compiling-is e = answered-accepted (refusalOf m t room) (screenIn t) (8 * length (recordsIn t)) e
 
   pub compiled-says : compiling m t room .number ≡ 0 → Accepted m t room
   compiled-says e =
@@ -56,7 +55,7 @@ module _ (m : ℕ) (t : Task) (room : ℕ) where
         task = a;
         records = omega (arith, length-records (screenIn t) (t .words) (commandsIn t) (omega (arith, a .taken)), length-parts (t .size) (t .list), a .taken);
         fits = room-says t room (p .1);
-        given = accepted-is m t room n;
+        given = compiling-is n;
       }
 
 -- ---- where a refusal stands

@@ -3,6 +3,7 @@ pub mod FirstPass
 pub mod SecondPass
 pub mod Puts
 pub mod Parts
+pub mod Answered
 pub mod Outcome
 pub mod Accepted
 pub mod Cases

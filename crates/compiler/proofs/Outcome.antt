@@ -12,7 +12,7 @@ use Rattle.record.specs.Record.{streamBytes}
 use Rattle.record.specs.Checks.{row, firstOf, Refusal}
 use Rattle.record.proofs.Checks.{passed, row-fails, row-passes, rows-end}
 use Rattle.record.proofs.Lists.{length-parts}
-use Rattle.record.proofs.Stores.{sets-over, length-stream}
+use Rattle.record.proofs.Stores.{length-stream}
 use Rattle.screen.specs.Screen.{fieldsOf, screenRows, screenOf}
 use Rattle.screen.specs.declared.Screen.{Screen}
 use Rattle.screen.specs.declared.ScreenAnswer.the-variants as screen-answer
@@ -21,11 +21,12 @@ use Rattle.command.specs.Task.{Task, screenIn, commandsIn, listRows, firstRefus
 use Rattle.command.proofs.Commands.{all-fine, words-suffice}
 use Rattle.command.proofs.Task.{list-says, words-left, words-fit, by-screen, by-list, by-command, by-end}
 use Rattle.compiler.specs.Stream.{screenRecords, drawRecords, recordsFor, recordsIn}
-use Rattle.compiler.specs.Compile.{roomRows, refusalOf, Compiling, answered, compiling, streamOf, bufferWith, bufferAfter, compilingOf, answerOf}
+use Rattle.compiler.specs.Compile.{roomRows, refusalOf, compiling, streamOf, bufferAfter, compilingOf, answerOf}
 use Rattle.compiler.specs.Pass.{passOf}
 use Rattle.compiler.specs.declared.Pass.{Pass}
 use Rattle.compiler.specs.declared.Compiled.{Compiled}
 use Rattle.compiler.specs.declared.Compiled.the-variants.{Accepted, Refused}
+use Rattle.compiler.proofs.Answered.{refused-by, accepted-by}
 use Rattle.compiler.proofs.Lengths.{length-screen, length-records}
 use Rattle.compiler.proofs.SecondPass.{stored-both}
 
@@ -53,25 +54,7 @@ module _ (m : ℕ) (t : Task) (room : ℕ) where
   unfolding refusalOf
   by-room e = rw e
 
-  -- ---- the answer to it
-  pub accepted-is : refusalOf m t room .number ≡ 0 → compiling m t room ≡ record { number = 0; place = 0; length = 8 * length (recordsIn t); depth = screenIn t .depth; rotation = screenIn t .rotation; flag = screenIn t .flag }
-  unfolding compiling
-  accepted-is e = rw e
-
 -- an answer with all its numbers, and the buffer that goes with it
-abbrev pub ToldBy : Compiling → List ℕ → List ℕ → Compiled → List ℕ → Type 0
-ToldBy c stream old r new = (compilingOf r ≡ c) × ((r ≡ answerOf c) × (new ≡ bufferWith c stream old))
-
-module _ (r : Refusal) (s : Screen) (size : ℕ) (stream old : List ℕ) where
-  pub refused-by : (n i : ℕ) → 0 < n → r ≡ record { number = n; place = i } → ToldBy (answered r s size) stream old (Refused n i) old
-  unfolding compilingOf answerOf
-  refused-by n i h e = let z : eqb n 0 ≡ false = ne-eqb n 0 (λ z. omega arith) in rw (e, z) (refl, (rw z, rw z))
-
-  pub accepted-by : r .number ≡ 0 → length stream ≤ length old → (new : List ℕ) → new ≡ sets old 0 stream
-      → ToldBy (answered r s size) stream old (Accepted size (s .depth) (s .rotation) (s .flag)) new
-  unfolding compilingOf answerOf
-  accepted-by e h new f = rw e (refl, (refl, f ∙ sets-over old stream h))
-
 abbrev pub Told : ℕ → Task → List ℕ → Compiled → List ℕ → Type 0
 Told m t old r new = (compilingOf r ≡ compiling m t (length old)) × ((r ≡ answerOf (compiling m t (length old))) × (new ≡ bufferAfter m t old))
 

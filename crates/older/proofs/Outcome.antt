@@ -2,6 +2,7 @@
 use Prim.Native.Nat.{ℕ, _*_, _<_, _≤_}
 use mathlib.Core.Path.{_≡_, refl, sym, ap, subst, _∙_}
 use mathlib.Core.List.{List}
+use mathlib.Core.Logic.{⊎-elim}
 use native.Mathlib.Omega.{arith}
 use lib.ListN.{length}
 use lib.Seq.{sets}
@@ -9,6 +10,7 @@ use lib.Dec.{lit<}
 use borrow.Author.Tests.{ne-eqb, eq-eqb, ltb-false}
 use Rattle.record.specs.Record.{streamBytes}
 use Rattle.record.specs.Checks.{row, firstOf, Numbered}
+use Rattle.record.proofs.Choice.{below-or-not}
 use Rattle.record.proofs.Checks.{passed, parts}
 use Rattle.record.proofs.Stores.{length-stream}
 use Rattle.screen.specs.Screen.{screenRows, screenOf}
@@ -20,7 +22,8 @@ use Rattle.compiler.specs.Stream.{recordsWith}
 use Rattle.compiler.specs.Compile.{answered, compilingOf, answerOf}
 use Rattle.compiler.specs.declared.Compiled.{Compiled}
 use Rattle.compiler.specs.declared.Compiled.the-variants.{Accepted, Refused}
-use Rattle.compiler.proofs.Outcome.{ToldBy, refused-screen, refused-by, accepted-by}
+use Rattle.compiler.proofs.Answered.{ToldBy, answered-number, answered-place, answered-accepted, refused-by, accepted-by}
+use Rattle.compiler.proofs.Outcome.{refused-screen}
 use Rattle.older.specs.Bytes.{olderMemory, olderBytes}
 use Rattle.older.specs.Compile.{olderRecords, lentRows, olderRows, olderRefusal, olderCompiling, olderBuffer}
 
@@ -53,6 +56,32 @@ module _ (t : Task) (room : ℕ) where
       let d = passed (row 16 _) _ (lit< tt) b .1 in
       let f : 8 * length (olderRecords (screenIn t)) ≤ room = ltb-false _ _ (passed (row 17 _) _ (lit< tt) d .0) in
       omega (arith, eighteen (screenIn t))
+
+-- ---- the answer
+module _ (t : Task) (room : ℕ) where
+  pub number-is : olderCompiling t room .number ≡ firstOf (olderRows t room)
+  unfolding olderCompiling
+  number-is = answered-number (olderRefusal t room) (screenIn t) (8 * length (olderRecords (screenIn t)))
+
+  pub place-is : olderCompiling t room .place ≡ 0
+  unfolding olderCompiling
+  place-is = answered-place (olderRefusal t room) (screenIn t) (8 * length (olderRecords (screenIn t))) (λ z. refl)
+
+  -- what acceptance says
+  pub answer-is : olderCompiling t room .number ≡ 0 → olderCompiling t room ≡ record { number = 0; place = 0; length = 144; depth = screenIn t .depth; rotation = screenIn t .rotation; flag = screenIn t .flag }
+  unfolding olderCompiling
+  answer-is e =
+      answered-accepted (olderRefusal t room) (screenIn t) (8 * length (olderRecords (screenIn t))) (sym number-is ∙ e)
+      ∙ ap (λ (n : ℕ). record { number = 0; place = 0; length = 8 * n; depth = screenIn t .depth; rotation = screenIn t .rotation; flag = screenIn t .flag }) (eighteen (screenIn t))
+
+  pub screen-accepted : olderCompiling t room .number ≡ 0 → firstOf (screenRows olderMemory (t .screen)) ≡ 0
+  screen-accepted e =
+      ⊎-elim (λ l. omega arith)
+      (λ g. absurd (omega (arith, by-screen t room (firstOf (screenRows olderMemory (t .screen))) g refl, number-is)))
+      (below-or-not (firstOf (screenRows olderMemory (t .screen))) 1)
+
+  pub has-room : olderCompiling t room .number ≡ 0 → 144 ≤ room
+  has-room e = room-says t room (sym (by-lent t room (screen-accepted e)) ∙ (sym number-is ∙ e))
 
 -- ---- each way to an answer, as the code goes
 abbrev pub Told : Task → List ℕ → Compiled → List ℕ → Type 0

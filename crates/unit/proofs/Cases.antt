@@ -1,4 +1,4 @@
--- 01's cases, and those of line lengths: one list, one claim, computed.
+-- 01's cases, those of line lengths and of the S1D13706: one list, one claim, computed.
 use Prim.Native.Nat.{_+_}
 use mathlib.Core.Path.{_≡_, refl}
 use mathlib.Core.Bool.{true}
@@ -26,14 +26,18 @@ use Rattle.record.specs.Lists.{partsFrom, partsOf}
 use Rattle.compiler.specs.Stream.{recordsWith, screenRecords, dataRecords, commandRecords, drawRecords, recordsFor}
 use Rattle.command.specs.Task.{listRows, firstRefusal, allWords, wordRows, taskRefusal}
 use Rattle.compiler.specs.Compile.{roomRows, refusalOf, compiling, streamOf}
+use Rattle.older.specs.Bytes.{olderBytes, olderValues}
+use Rattle.older.specs.Compile.{olderRecords, lentRows, olderRows, olderCompiling}
+use Rattle.older.specs.Cases.{exampleCases, olderCases}
 use Rattle.unit.specs.Sheet.{sheetPixel, hostPixel as sheet·hostPixel, sheetSource, sheetMix, newPixel, changes, sheetByte, sheetCommand, sheetCommands, sheetAfter}
 use Rattle.unit.specs.Cases.{drawCases, cases}
 
 pub cases-hold : allHold cases ≡ true
-unfolding allZero firstOf recordBytes streamBytes recordAt recordsFrom recordsOf isDepth getPixel putPixel byteOf bitwise imageEnd startOf fieldsOf wellFormed panelOk viewWidth viewHeight wholeDwords mainImage windowImage lineOk imageOk windowOk windowWhole fieldRows screenRows screenOf windowX windowY originOf valuesOf allHold screenCases lineCases pixels chipLine chipLines chipBlit wordPixel hostPixel chipWord listed fits screenAfter blitAfter startable span within sourceFits mixBy fromBy jobOf blitOf writeOf started admitRows admit·refusal dueAfter dueOf chipAfter effect newChip run applied ending playing played commandOf commandBytes surfaceOf mustBeZero formed insideImage placed lineWords wordsTaken commandRows refusal addressOf destinationOf sourceOf isNegative lastColumn lastLine commandValue sourceValue destinationValue controlValue blitValues partsFrom partsOf recordsWith screenRecords dataRecords commandRecords drawRecords recordsFor listRows firstRefusal allWords wordRows taskRefusal roomRows refusalOf compiling streamOf sheetPixel sheet·hostPixel sheetSource sheetMix newPixel changes sheetByte sheetCommand sheetCommands sheetAfter drawCases cases
+unfolding allZero firstOf recordBytes streamBytes recordAt recordsFrom recordsOf isDepth getPixel putPixel byteOf bitwise imageEnd startOf fieldsOf wellFormed panelOk viewWidth viewHeight wholeDwords mainImage windowImage lineOk imageOk windowOk windowWhole fieldRows screenRows screenOf windowX windowY originOf valuesOf allHold screenCases lineCases pixels chipLine chipLines chipBlit wordPixel hostPixel chipWord listed fits screenAfter blitAfter startable span within sourceFits mixBy fromBy jobOf blitOf writeOf started admitRows admit·refusal dueAfter dueOf chipAfter effect newChip run applied ending playing played commandOf commandBytes surfaceOf mustBeZero formed insideImage placed lineWords wordsTaken commandRows refusal addressOf destinationOf sourceOf isNegative lastColumn lastLine commandValue sourceValue destinationValue controlValue blitValues partsFrom partsOf recordsWith screenRecords dataRecords commandRecords drawRecords recordsFor listRows firstRefusal allWords wordRows taskRefusal roomRows refusalOf compiling streamOf sheetPixel sheet·hostPixel sheetSource sheetMix newPixel changes sheetByte sheetCommand sheetCommands sheetAfter drawCases olderBytes olderValues olderRecords lentRows olderRows olderCompiling exampleCases olderCases cases
 cases-hold = refl
 
--- none is left out: ten of S1 to S9, thirty of line lengths, B1 on short and long lines, B2 and B3
-pub all-of-them : length cases ≡ 10 + 30 + 4
-unfolding screenCases lineCases drawCases cases
+-- none is left out: ten of S1 to S9, thirty of line lengths, B1 on short and long lines, B2 and B3; 001's eight examples and their registers, and
+-- twenty-one of the S1D13706's limits
+pub all-of-them : length cases ≡ 10 + 30 + 4 + 9 + 21
+unfolding screenCases lineCases drawCases exampleCases olderCases cases
 all-of-them = refl

@@ -1,37 +1,45 @@
--- The three demands.
-use mathlib.Core.Path.{_≡_, refl, sym, ap, ap₂, subst, _∙_}
+-- The three demands, and the first two for the S1D13706.
+use mathlib.Core.Path.{_≡_, refl, sym, ap, subst, _∙_}
 use mathlib.Core.Bool.{cond}
 use mathlib.Core.List.{List}
 use Prim.Native.Nat.{ℕ, _%_, _≤_, _<_}
 use native.Mathlib.Omega.{arith}
 use lib.Dec.{eqb}
-use lib.ListN.{length, take, drop}
-use lib.Seq.{take-append-seam}
+use lib.ListN.{length}
 use borrow.Author.Tests.{eq-eqb, ne-eqb}
 use Rattle.record.specs.Lists.{AllBelow}
 use Rattle.record.specs.Record.{streamBytes, recordsOf}
+use Rattle.record.specs.Checks.{firstOf}
 use Rattle.record.specs.declared.Record.{Record}
 use Rattle.record.proofs.Stores.{length-stream}
 use Rattle.record.proofs.Records.{records-back}
-use Rattle.screen.specs.Screen.{memorySize, fieldsOf}
+use Rattle.screen.specs.Screen.{memorySize, fieldsOf, fieldRows}
 use Rattle.screen.specs.Values.{valuesOf}
 use Rattle.screen.specs.declared.Screen.{Screen}
 use Rattle.screen.specs.declared.ScreenValues.{ScreenValues}
 use Rattle.screen.proofs.Read.{accepts, read-accepted}
+use Rattle.screen.proofs.Fits.{values-fit}
+use Rattle.view.specs.Shows.{Shows, shownBit}
+use Rattle.view.specs.declared.Place.{Place}
 use Rattle.view.proofs.Demand.{demand-2 as view·demand-2}
-use Rattle.reader.specs.Read.{reading, displayOf}
+use Rattle.reader.specs.Read.{lookedAt, reading, displayOf}
 use Rattle.command.specs.Task.{Task, screenIn, commandsIn, taskRefusal}
 use Rattle.command.proofs.Task.{Accepted}
 use Rattle.compiler.specs.Stream.{drawRecords, recordsIn}
 use Rattle.compiler.specs.Compile.{Compiling, compiling, streamOf, bufferAfter}
+use Rattle.compiler.proofs.Answered.{stream-given}
 use Rattle.compiler.proofs.Accepted.{compiled-says}
+use Rattle.older.specs.Bytes.{olderMemory, olderValues}
+use Rattle.older.specs.Compile.{olderRecords, registersIn, bytesIn, olderCompiling, olderBuffer}
+use Rattle.older.proofs.Bytes.{values-back, records-small, registers-are, bytes-are}
+use Rattle.older.proofs.Outcome.{eighteen, answer-is, screen-accepted}
 use Rattle.chip.specs.Play.{Playing, newChip, playing, played}
 use Rattle.chip.proofs.Answers.{acceptedBy}
 use Rattle.chip.proofs.Commands.{quiet}
 use Rattle.chip.proofs.Plays.{Plays, plays-accepted, plays-played}
 use Rattle.unit.specs.Sheet.{sheetCommands, sheetAfter, sheetShows}
-use Rattle.unit.specs.Demands.{Demand1, Demand2, Demand3, InBytes, DrawnTruly, streamGiven, displayGiven}
-use Rattle.unit.proofs.Tables.{compile-decided, play-decided, read-decided}
+use Rattle.unit.specs.Demands.{Demand1, Demand2, Demand3, InBytes, DrawnTruly, streamGiven, displayBy, displayGiven, OlderDemand1, writesGiven, valuesGiven, olderDisplay, SetTruly, OlderDemand2}
+use Rattle.unit.proofs.Tables.{compile-decided, older-decided, play-decided, read-decided}
 use Rattle.unit.proofs.Listed.{Ends}
 use Rattle.unit.proofs.Points.{reads-sheet}
 use Rattle.unit.proofs.Whole.{rest-ends, whole-plays, plays-small, sheet-bytes, sheet-length}
@@ -63,10 +71,9 @@ module _ (t : Task) (buffer : List ℕ) (e : compiling memorySize t (length buff
   pub stream-is : streamGiven t buffer ≡ streamBytes (recordsIn t)
   unfolding bufferAfter streamOf
   stream-is =
-      ap₂ (λ (n : ℕ) (b : List ℕ). take n b)
-      (ap (λ (c : Compiling). c .length) (compiled-says memorySize t (length buffer) e .given) ∙ sym (length-stream (recordsIn t)))
-      (rw (eq-eqb (compiling memorySize t (length buffer) .number) 0 e) refl)
-      ∙ take-append-seam (streamBytes (recordsIn t)) (drop (length (streamBytes (recordsIn t))) buffer)
+      let g = compiled-says memorySize t (length buffer) e .given in
+      stream-given (compiling memorySize t (length buffer)) (streamBytes (recordsIn t)) buffer e
+      (ap (λ (c : Compiling). c .length) g ∙ sym (length-stream (recordsIn t)))
 
 module _ (t : Task) (buffer memory : List ℕ) (below : InBytes t) (byte-memory : AllBelow 256 memory) (len : length memory ≡ memorySize)
     (e : compiling memorySize t (length buffer) .number ≡ 0) where
@@ -136,3 +143,62 @@ module _ (t : Task) (buffer memory : List ℕ) (below : InBytes t) (byte-memory 
 
 pub demand-3 : Demand3
 demand-3 t buffer memory below byte-memory len e = drawn-truly t buffer memory below byte-memory len e
+
+-- ---- the S1D13706
+pub older-demand-1 : OlderDemand1
+unfolding olderBuffer
+older-demand-1 =
+    record {
+      compiled = older-decided;
+      stream-kept = λ t old h. kept (olderCompiling t (length old) .number) _ _ h;
+      reads = read-decided olderMemory;
+    }
+
+module _ (t : Task) (buffer : List ℕ) (e : olderCompiling t (length buffer) .number ≡ 0) where
+  abbrev older : Screen
+  older = screenIn t
+
+  small : olderMemory ≤ 262144
+  small = omega arith
+
+  fine : (firstOf (fieldRows olderMemory older) ≡ 0) × (older .flag ≤ 1)
+  fine =
+      let r = read-accepted olderMemory (t .screen) older (sym (accepts olderMemory (t .screen) (screen-accepted t (length buffer) e))) in
+      (r .2, r .3)
+
+  -- the records of the stream, and what they make
+  writes-are : writesGiven t buffer ≡ olderRecords older
+  unfolding olderBuffer
+  writes-are =
+      ap recordsOf
+      (stream-given (olderCompiling t (length buffer)) (streamBytes (olderRecords older)) buffer e
+      (ap (λ (c : Compiling). c .length) (answer-is t (length buffer) e) ∙ omega (arith, length-stream (olderRecords older), eighteen older)))
+      ∙ records-back (olderRecords older) (records-small older)
+
+  values-are : valuesGiven t buffer ≡ valuesOf older
+  values-are =
+      ap (λ (rs : List Record). olderValues (bytesIn rs)) writes-are
+      ∙ ap olderValues (bytes-are older)
+      ∙ values-back (valuesOf older) (values-fit olderMemory older small (fine .0) (fine .1))
+
+  older-display : olderDisplay t buffer ≡ displayOf older
+  unfolding displayOf
+  older-display = ap (λ (c : Compiling). displayBy c older) (answer-is t (length buffer) e)
+
+  set-truly : SetTruly t buffer
+  unfolding displayOf
+  set-truly =
+      record {
+        registers = ap registersIn writes-are ∙ registers-are older;
+        values = values-are;
+        shows = λ p q hp hq.
+            subst (λ (w : Place). Shows olderMemory (older .depth) w (shownBit older p q))
+            (sym (λ i. lookedAt (older-display i) (values-are i) p q))
+            (view·demand-2 olderMemory older (fine .0) p q hp hq);
+        colours = λ memory bytes len p q hp hq.
+            (λ i. reading olderMemory (older-display i) (values-are i) p q memory)
+            ∙ reads-sheet olderMemory older (fine .0) (fine .1) small memory len bytes p q hp hq;
+      }
+
+pub older-demand-2 : OlderDemand2
+older-demand-2 t buffer e = set-truly t buffer e

@@ -2,7 +2,7 @@
 use mathlib.Core.Path.{_≡_, refl, sym, ap, subst, _∙_}
 use mathlib.Core.Bool.{Bool, true, false, not, cond}
 use mathlib.Core.List.{List, [], _∷_, _++_, append-assoc}
-use Prim.Native.Nat.{ℕ, suc, _+_, _-_, _/_, _%_, _<_}
+use Prim.Native.Nat.{ℕ, suc, _+_, _-_, _*_, _/_, _%_, _<_}
 use native.Mathlib.Omega.{arith}
 use lib.Dec.{eqb, lit<}
 use lib.ListN.{length}
@@ -19,7 +19,12 @@ use Rattle.screen.proofs.Read.{screen-numbered}
 use Rattle.command.specs.Command.{commandOf, wordsTaken, commandRows, refusal}
 use Rattle.command.proofs.Answer.{command-numbered}
 use Rattle.command.specs.Task.{Task, screenIn, commandsIn, listRows, firstRefusal, wordRows, taskRefusal}
-use Rattle.compiler.specs.Compile.{roomRows, refusalOf, refusedBy as compiler·refusedBy, Compiling, compiling}
+use Rattle.compiler.specs.Stream.{recordsIn}
+use Rattle.compiler.specs.Compile.{roomRows, refusalOf, compiling}
+use Rattle.compiler.proofs.Answered.{answered-number, answered-place}
+use Rattle.older.specs.Bytes.{olderMemory}
+use Rattle.older.specs.Compile.{lentRows, olderRows, olderCompiling}
+use Rattle.older.proofs.Outcome.{lent-numbered, number-is, place-is}
 use Rattle.chip.specs.Admit.{admitRows, chipAfter}
 use Rattle.chip.specs.Play.{newChip, run, refusedBy, ending, playing}
 use Rattle.chip.specs.declared.Chip.{Chip}
@@ -205,18 +210,34 @@ module _ (m : ℕ) (t : Task) where
 
     pub compile-first : (compiling m t room .number ≡ firstOf (compileRows m t room)) × (compiling m t room .place ≡ firstPlace (compileRows m t room))
     unfolding compiling
-    compile-first = by-number (eqb (refusalOf m t room .number) 0) _ refl refl refl
-      where
-        by-number : (b : Bool) (p : Compiling) → p .number ≡ 0 → p .place ≡ 0 → eqb (refusalOf m t room .number) 0 ≡ b
-            → (cond b p (compiler·refusedBy (refusalOf m t room .number) (refusalOf m t room .place)) .number ≡ firstOf (compileRows m t room))
-            × (cond b p (compiler·refusedBy (refusalOf m t room .number) (refusalOf m t room .place)) .place ≡ firstPlace (compileRows m t room))
-        by-number true p n i e =
-            let z = sym refusal-first ∙ eqb-true (refusalOf m t room .number) 0 e in
-            (n ∙ sym z, i ∙ sym (nowhere (compileRows m t room) (none (compileRows m t room) rows-numbered z)))
-        by-number false p n i e = (refusal-first, refusal-place)
+    compile-first =
+        let r = refusalOf m t room in
+        let size = 8 * length (recordsIn t) in (
+          answered-number r (screenIn t) size ∙ refusal-first,
+          answered-place r (screenIn t) size
+              (λ z. refusal-place ∙ nowhere (compileRows m t room) (none (compileRows m t room) rows-numbered (sym refusal-first ∙ z)))
+              ∙ refusal-place,
+        )
 
     pub compile-decided : Decided (compiling m t room .number) (compiling m t room .place) (compileRows m t room)
     compile-decided = decided (compile-first .0) (compile-first .1) rows-numbered
+
+-- ---- compiling for the S1D13706
+lent-placeless : (t : Task) (room : ℕ) → Placeless (lentRows t room)
+unfolding Placeless lentRows
+lent-placeless t room = (refl, (refl, (refl, (refl, tt))))
+
+older-numbered : (t : Task) (room : ℕ) → Numbered (olderRows t room)
+unfolding olderRows
+older-numbered t room = numbered-append (screenRows olderMemory (t .screen)) _ (screen-numbered olderMemory (t .screen)) (lent-numbered t room)
+
+older-placeless : (t : Task) (room : ℕ) → Placeless (olderRows t room)
+unfolding olderRows
+older-placeless t room = placeless-append (screenRows olderMemory (t .screen)) _ (screen-placeless olderMemory (t .screen)) (lent-placeless t room)
+
+pub older-decided : (t : Task) (room : ℕ) → Decided (olderCompiling t room .number) (olderCompiling t room .place) (olderRows t room)
+older-decided t room =
+    decided (number-is t room) (place-is t room ∙ sym (placeless (olderRows t room) (older-placeless t room))) (older-numbered t room)
 
 -- ---- playing
 run-first : (m : ℕ) (c : Chip) (i n : ℕ) (rs : List Record) → i + length rs ≡ n → Says (ending (run m c i rs) n) (recordRows m c i rs)

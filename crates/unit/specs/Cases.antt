@@ -1,4 +1,4 @@
--- 01's cases S1 to S9 and B1 to B3 (01, "Cases") and those of line lengths (02, c) as one list.
+-- 01's cases S1 to S9 and B1 to B3 (01, "Cases"), those of line lengths (02, c) and of the S1D13706 (02, d) as one list.
 use Prim.Native.Nat.{ℕ}
 use mathlib.Core.List.{List, [], _∷_, _++_}
 use lib.ListN.{take, drop}
@@ -9,6 +9,7 @@ use Rattle.screen.specs.Screen.{memorySize, fieldsOf}
 use Rattle.command.specs.Command.{commandBytes}
 use Rattle.command.specs.Task.{task, commandsIn}
 use Rattle.compiler.specs.Compile.{compiling, streamOf}
+use Rattle.older.specs.Cases.{exampleCases, olderCases}
 use Rattle.chip.specs.Play.{newChip, run, applied}
 use Rattle.unit.specs.Sheet.{sheetCommands}
 
@@ -75,4 +76,4 @@ drawCases =
     ∷ []
 
 unfoldable pub cases : List Case
-cases = screenCases ++ lineCases ++ drawCases
+cases = screenCases ++ lineCases ++ drawCases ++ exampleCases ++ olderCases

@@ -1,21 +1,26 @@
--- The three demands, as the customer wrote them.
+-- The three demands, as the customer wrote them; and the first two for the older units' S1D13706 (02, d).
 use Prim.Native.Nat.{ℕ, _<_}
 use mathlib.Core.Path.{_≡_}
 use mathlib.Core.List.{List}
 use mathlib.Core.Logic.{_↔_}
 use lib.ListN.{length, take}
 use Rattle.record.specs.Lists.{AllBelow}
+use Rattle.record.specs.Record.{recordsOf}
 use Rattle.record.specs.Checks.{Row, firstOf, AllPass, FirstFails}
+use Rattle.record.specs.declared.Record.{Record}
 use Rattle.screen.specs.Screen.{memorySize, fieldsOf, screenRows}
 use Rattle.screen.specs.Values.{valuesOf}
+use Rattle.screen.specs.declared.Screen.{Screen}
 use Rattle.screen.specs.declared.ScreenValues.{ScreenValues}
 use Rattle.view.specs.Walk.{placeOf}
 use Rattle.view.specs.Shows.{Shows, shownBit}
-use Rattle.reader.specs.Read.{readRows, reading}
+use Rattle.reader.specs.Read.{lookedAt, readRows, reading}
 use Rattle.reader.specs.declared.Display.{Display}
 use Rattle.command.specs.Task.{Task, screenIn}
-use Rattle.compiler.specs.Compile.{compiling, bufferAfter}
+use Rattle.compiler.specs.Compile.{Compiling, compiling, bufferAfter}
 use Rattle.chip.specs.Play.{playing, played}
+use Rattle.older.specs.Bytes.{olderMemory, olderRegisters, olderValues}
+use Rattle.older.specs.Compile.{registersIn, bytesIn, olderRows, olderCompiling, olderBuffer}
 use Rattle.unit.specs.Sheet.{sheetAfter, sheetShows}
 use Rattle.unit.specs.Tables.{compileRows, playRows}
 
@@ -53,10 +58,11 @@ abbrev pub streamGiven : Task → List ℕ → List ℕ
 streamGiven t buffer = take (compiling memorySize t (length buffer) .length) (bufferAfter memorySize t buffer)
 
 -- compiling's depth, rotation and flag, and the panel size
+abbrev pub displayBy : Compiling → Screen → Display
+displayBy c s = record { depth = c .depth; rotation = c .rotation; flag = c .flag; width = s .width; height = s .height }
+
 abbrev pub displayGiven : Task → List ℕ → Display
-displayGiven t buffer =
-    let c = compiling memorySize t (length buffer) in
-    record { depth = c .depth; rotation = c .rotation; flag = c .flag; width = screenIn t .width; height = screenIn t .height }
+displayGiven t buffer = displayBy (compiling memorySize t (length buffer)) (screenIn t)
 
 -- what demand 3 claims of a screen record, a list and host words, a stream buffer and a memory: playing the stream is not refused;
 -- the memory is then the sheet's; and at every panel point the reader, given playing's six values and the memory it left,
@@ -81,3 +87,39 @@ Demand3 =
     (t : Task) (buffer memory : List ℕ) → InBytes t → AllBelow 256 memory
     → length memory ≡ memorySize → compiling memorySize t (length buffer) .number ≡ 0
     → DrawnTruly t buffer memory
+
+-- ---- the S1D13706
+-- Demand 1 for it
+pub record OlderDemand1 : Type 0 where
+  pub compiled : (t : Task) (room : ℕ) → let r = olderCompiling t room in Decided (r .number) (r .place) (olderRows t room)
+  pub stream-kept : (t : Task) (old : List ℕ) → 0 < olderCompiling t (length old) .number → olderBuffer t old ≡ old
+  pub reads : (d : Display) (v : ScreenValues) (p q : ℕ) (memory : List ℕ)
+      → let r = reading olderMemory d v p q memory in Decided (r .number) (r .place) (readRows olderMemory d v p q memory)
+
+-- the byte writes: the records of the stream in the length that compiling gave
+abbrev pub writesGiven : Task → List ℕ → List Record
+writesGiven t buffer = recordsOf (take (olderCompiling t (length buffer) .length) (olderBuffer t buffer))
+
+-- the six values, put together from the bytes that are written
+abbrev pub valuesGiven : Task → List ℕ → ScreenValues
+valuesGiven t buffer = olderValues (bytesIn (writesGiven t buffer))
+
+abbrev pub olderDisplay : Task → List ℕ → Display
+olderDisplay t buffer = displayBy (olderCompiling t (length buffer)) (screenIn t)
+
+-- what demand 2 claims of it, from a screen record and a stream buffer on: the eighteen registers are written; the values are 01's six of
+-- the screen; from them the chip's walk comes at each panel point to the pixel that the rotation names; and the point reader gives that
+-- pixel's colour in any memory of 81,920 bytes
+pub record SetTruly (t : Task) (buffer : List ℕ) : Type 0 where
+  pub registers : registersIn (writesGiven t buffer) ≡ olderRegisters
+  pub values : valuesGiven t buffer ≡ valuesOf (screenIn t)
+  pub shows : (p q : ℕ) → p < screenIn t .width → q < screenIn t .height
+      → Shows olderMemory (screenIn t .depth) (lookedAt (olderDisplay t buffer) (valuesGiven t buffer) p q) (shownBit (screenIn t) p q)
+  pub colours : (memory : List ℕ) → AllBelow 256 memory → length memory ≡ olderMemory
+      → (p q : ℕ) → p < screenIn t .width → q < screenIn t .height
+      → reading olderMemory (olderDisplay t buffer) (valuesGiven t buffer) p q memory
+      ≡ record { number = 0; place = 0; colour = sheetShows (screenIn t) memory p q }
+
+-- Demand 2 for it: of every screen record that compiles
+abbrev pub OlderDemand2 : Type 0
+OlderDemand2 = (t : Task) (buffer : List ℕ) → olderCompiling t (length buffer) .number ≡ 0 → SetTruly t buffer
