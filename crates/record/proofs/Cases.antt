@@ -3,17 +3,19 @@ use mathlib.Core.Path.{_≡_, refl}
 use mathlib.Core.Bool.{true, false}
 use mathlib.Core.List.{[], _∷_}
 use Prim.Native.Nat.{_+_, _*_}
-use Rattle.record.specs.Bytes.{byteAt, u16At, u32At, twoBytes, fourBytes, allZero, over}
+use Rattle.record.specs.Bytes.{byteAt, u16At, u24At, u32At, twoBytes, threeBytes, fourBytes, allZero, over}
 use Rattle.record.specs.Lists.{tabulate, partsFrom, partsOf}
 use Rattle.record.specs.Record.{recordWith, recordBytes, streamBytes, recordAt, recordsFrom, recordsOf}
 use Rattle.record.specs.Checks.{row, rowsWith, firstOf}
 
 pub number-cases : (twoBytes 0x1234 ≡ 0x34 ∷ 0x12 ∷ [])
     × (u16At (9 ∷ 0x34 ∷ 0x12 ∷ []) 1 ≡ 0x1234)
+    × (u24At (9 ∷ 0x56 ∷ 0x34 ∷ 0x12 ∷ 7 ∷ []) 1 ≡ 0x123456)
+    × (threeBytes 0x7123456 ≡ 0x56 ∷ 0x34 ∷ 0x12 ∷ [])
     × (u32At (9 ∷ 0x78 ∷ 0x56 ∷ 0x34 ∷ 0x12 ∷ []) 1 ≡ 0x12345678)
     × (fourBytes 0x12345678 ≡ 0x78 ∷ 0x56 ∷ 0x34 ∷ 0x12 ∷ [])
     × (byteAt (9 ∷ []) 1 ≡ 0)
-number-cases = (refl, refl, refl, refl, refl)
+number-cases = (refl, refl, refl, refl, refl, refl, refl)
 
 pub byte-cases : (allZero (0 ∷ 0 ∷ []) ≡ true) × (allZero (0 ∷ 1 ∷ []) ≡ false) × (over (1 ∷ 2 ∷ []) (7 ∷ 8 ∷ 9 ∷ []) ≡ 1 ∷ 2 ∷ 9 ∷ [])
 unfolding allZero
