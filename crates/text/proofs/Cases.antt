@@ -16,9 +16,17 @@ first-reason : reason 1 ≡ letters "screen record not 32 bytes, flag above 1, o
 unfolding reason
 first-reason = refl
 
-point-reason : reason 25 ≡ letters "dword address outside 0 to 65535"
+point-reason : reason 25 ≡ letters "dword address outside 0 to 65535 (13706: 20479)"
 unfolding reason
 point-reason = refl
+
+-- where the S1D13706 has other numbers
+older-reasons : (reason 6 ≡ letters "main base not a multiple of 4, or image past byte 262144 (13706: 81920)")
+    × (reason 9 ≡ letters "window base not a multiple of 4, or image past byte 262144 (13706: 81920)")
+    × (reason 11 ≡ letters "a command at a depth below 8 (13706: at any depth)")
+    × (reason 18 ≡ letters "memory not 262144 bytes (13706: 81920)")
+unfolding reason
+older-reasons = (refl, refl, refl, refl)
 
 last-reason : reason 26 ≡ letters "line length below the shown width, not a multiple of 32 / depth, or over 1023 dwords"
 unfolding reason

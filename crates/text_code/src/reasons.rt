@@ -1,32 +1,32 @@
 // The reasons of the refusals.
 
 // The reason of 0, of 1 and so on, a line each.
-pub const REASONS: [u8; 1124] = *b"accepted
+pub const REASONS: [u8; 1206] = *b"accepted
 screen record not 32 bytes, flag above 1, or a spare byte not zero
 depth not 1, 2, 4, 8 or 16
 rotation above 3
 panel width not a multiple of 8 in 8 to 1024, or height not 1 to 1024
 view width not a multiple of 32 / depth
-main base not a multiple of 4, or image past byte 262144
+main base not a multiple of 4, or image past byte 262144 (13706: 81920)
 window width or height 0, or window outside the view
 window x or width not a multiple of 32 / depth
-window base not a multiple of 4, or image past byte 262144
+window base not a multiple of 4, or image past byte 262144 (13706: 81920)
 list not a multiple of 32 bytes, or over 64 commands
-a command at a depth below 8
+a command at a depth below 8 (13706: at any depth)
 operation, surface, raster code or colour too high, or a spare byte not zero
 rectangle width or height 0
 destination or source outside the surface
 too few host words
 host words left over
 stream buffer shorter than the stream
-memory not 262144 bytes
+memory not 262144 bytes (13706: 81920)
 stream not a multiple of 8 bytes
 number not a listed register nor 10000h
 value outside its field, or start of no operation
 blit outside the memory
 data word when none is due, or none when one is due
 panel point outside the panel
-dword address outside 0 to 65535
+dword address outside 0 to 65535 (13706: 20479)
 line length below the shown width, not a multiple of 32 / depth, or over 1023 dwords
 ";
 
@@ -39,25 +39,25 @@ pub const STARTS: [usize; 28] = [
     120,
     190,
     230,
-    287,
-    340,
-    387,
-    446,
-    499,
-    528,
-    605,
-    633,
-    675,
-    694,
-    715,
-    753,
-    777,
-    810,
-    850,
-    900,
-    924,
-    976,
-    1006,
-    1039,
-    1124,
+    302,
+    355,
+    402,
+    476,
+    529,
+    580,
+    657,
+    685,
+    727,
+    746,
+    767,
+    805,
+    844,
+    877,
+    917,
+    967,
+    991,
+    1043,
+    1073,
+    1121,
+    1206,
 ];
