@@ -5,9 +5,9 @@
  * assumed.
  *
  * Pointers. Each pointer is followed by its length in elements, but for values, which has six, bytes,
- * which has eighteen, and player, which is one. It is valid for that length, and not null even where the length is 0. A buffer
- * that is written overlaps no other one of the same call. No function keeps a pointer, allocates, or
- * blocks.
+ * which has eighteen, and player, which is one. It is valid for that length, and not null even where
+ * the length is 0. A buffer that is written overlaps no other one of the same call. No function keeps a
+ * pointer, allocates, or blocks.
  *
  * Answers. number is 0 where the input is accepted, else the refusal, one of s1d_refusal. A refusal
  * leaves every buffer as it was, and every other number of the answer is 0, but for place (and the

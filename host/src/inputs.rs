@@ -2,7 +2,16 @@
 
 use crate::answers::{Player, Settings};
 
+/// Bytes of the display memory, and of the older chip's.
 const MEMORY: u64 = 262_144;
+const OLDER_MEMORY: u64 = 81_920;
+
+/// Bytes of the older chip's stream.
+const OLDER_STREAM: u64 = 144;
+
+/// Numbers at the limit of a field, or just past it.
+const LIMITS: [u64; 9] =
+    [1024, 1025, 1032, OLDER_MEMORY, MEMORY, 0xFFFF, 0x8000, 0xFFFF_FFFC, 0xFFFF_FFFF];
 
 /// Most dwords of a line.
 const MOST_LINE: u64 = 1023;
@@ -81,7 +90,7 @@ impl Rng {
             1 => 1,
             2 | 3 => old.wrapping_sub(step),
             4 | 5 => old.wrapping_add(step),
-            6 => self.pick(&[1024, 1025, 1032, MEMORY, 0xFFFF, 0x8000, 0xFFFF_FFFC, 0xFFFF_FFFF]),
+            6 => self.pick(&LIMITS),
             // The longest line in pixels, and a dword more, at some depth.
             7 => self.pick(&[MOST_LINE, MOST_LINE + 1]) * self.pick(&[32, 16, 8, 4, 2]),
             8 => old ^ 1 << self.below(32),
@@ -143,10 +152,10 @@ struct Image {
     named: bool,
 }
 
-/// An image that fits. Its length is often not named, and otherwise often the least, a dword more or
-/// the greatest.
-fn image(rng: &mut Rng, shown: u64, lines: u64) -> Image {
-    let left = MEMORY / 4 - shown;
+/// An image that fits into a memory. Its length is often not named, and otherwise often the least, a
+/// dword more or the greatest.
+fn image(rng: &mut Rng, memory: u64, shown: u64, lines: u64) -> Image {
+    let left = memory / 4 - shown;
     let most = left.checked_div(lines - 1).unwrap_or(MOST_LINE).min(MOST_LINE);
     let named = rng.one_in(2);
     let line = match rng.below(5) {
@@ -161,12 +170,12 @@ fn image(rng: &mut Rng, shown: u64, lines: u64) -> Image {
 
 impl Image {
     /// An image like the other one in this one's gap, right of its shown part, so that they share no
-    /// byte; smaller where it has to be. Nothing where there is no gap.
-    fn gap(&self, rng: &mut Rng, other: &Image) -> Option<Image> {
+    /// byte; smaller where it has to be to fit into the memory. Nothing where there is no gap.
+    fn gap(&self, rng: &mut Rng, memory: u64, other: &Image) -> Option<Image> {
         let gap = self.line - self.shown;
         let shown = other.shown.min(gap);
         let first = self.base + self.shown + rng.offset(gap - shown);
-        let left = (MEMORY / 4).checked_sub(first + shown)?;
+        let left = (memory / 4).checked_sub(first + shown)?;
         let lines = other.lines.min(left / self.line + 1);
         let base = first + self.line * rng.offset(left / self.line + 1 - lines);
         (shown > 0).then_some(Image { base, shown, line: self.line, lines, named: true })
@@ -179,8 +188,8 @@ impl Image {
     }
 }
 
-/// A screen record that is accepted.
-pub fn screen(rng: &mut Rng) -> Vec<u8> {
+/// A screen record that is accepted on a chip with a memory of so many bytes.
+pub fn screen(rng: &mut Rng, memory: u64) -> Vec<u8> {
     let depth = rng.pick(&[1, 2, 4, 8, 8, 8, 16, 16, 16]);
     let rotation = rng.below(4);
     let k = 32 / depth;
@@ -190,12 +199,12 @@ pub fn screen(rng: &mut Rng) -> Vec<u8> {
     } else {
         (k * rng.size(1024 / k), 8 * rng.size(128))
     };
-    let most = MEMORY * 8 / (width * depth);
+    let most = memory * 8 / (width * depth);
     height = height.min(if rotation % 2 == 0 { most } else { most / 8 * 8 });
     let mut record = vec![0; 32];
     set(&mut record, 0, 1, depth);
     set(&mut record, 1, 1, rotation);
-    let main = image(rng, width / k, height);
+    let main = image(rng, memory, width / k, height);
     main.put(&mut record, 8, 24, k);
     if rotation % 2 == 1 {
         (width, height) = (height, width);
@@ -204,9 +213,9 @@ pub fn screen(rng: &mut Rng) -> Vec<u8> {
     set(&mut record, 6, 2, height);
     if rng.one_in(2) {
         let (shown, lines) = (rng.size(main.shown), rng.size(main.lines));
-        let mut window = image(rng, shown, lines);
+        let mut window = image(rng, memory, shown, lines);
         if rng.one_in(3) {
-            window = main.gap(rng, &window).unwrap_or(window);
+            window = main.gap(rng, memory, &window).unwrap_or(window);
         }
         record[2] = 1;
         window.put(&mut record, 12, 26, k);
@@ -267,7 +276,7 @@ fn command(rng: &mut Rng, screen: &[u8], words: u64) -> (Vec<u8>, u64) {
 
 /// A screen, a list that is accepted on it, its words, and a buffer that holds the stream.
 pub fn accepted(rng: &mut Rng) -> Drawing {
-    let screen = screen(rng);
+    let screen = screen(rng, MEMORY);
     let count = match rng.below(16) {
         _ if screen[0] < 8 => 0,
         0 => 0,
@@ -288,17 +297,24 @@ pub fn accepted(rng: &mut Rng) -> Drawing {
     Drawing { screen, list, words: rng.words(taken), room }
 }
 
+/// Damages a screen record in one place.
+fn damage_screen(rng: &mut Rng, screen: &mut Vec<u8>) {
+    match rng.below(7) {
+        0..=4 if screen.len() >= 32 => nudge(rng, screen, &SCREEN_FIELDS),
+        5 if screen.len() >= 32 => screen[rng.below(32) as usize] = rng.any() as u8,
+        _ => {
+            let length = rng.pick(&[0, 1, 16, 31, 33, 64]);
+            screen.resize(length, 0);
+        }
+    }
+}
+
 /// Damages a drawing in one place.
 pub fn damage(rng: &mut Rng, drawing: &mut Drawing) {
     let Drawing { screen, list, words, room } = drawing;
     let commands = list.len() / 32;
     match rng.below(20) {
-        0..=4 if screen.len() >= 32 => nudge(rng, screen, &SCREEN_FIELDS),
-        5 if screen.len() >= 32 => screen[rng.below(32) as usize] = rng.any() as u8,
-        6 => {
-            let length = rng.pick(&[0, 1, 16, 31, 33, 64]);
-            screen.resize(length, 0);
-        }
+        0..=6 => damage_screen(rng, screen),
         7..=12 if commands > 0 => {
             let at = 32 * rng.below(commands as u64) as usize;
             let part = &mut list[at..at + 32];
@@ -332,6 +348,48 @@ pub fn damage(rng: &mut Rng, drawing: &mut Drawing) {
             *room = room.saturating_sub(less as usize);
         }
     }
+}
+
+/// What compiling for the older chip is given: mostly accepted, or refused for one thing.
+pub fn older(rng: &mut Rng) -> Drawing {
+    // An image that ends with a larger memory ends past the chip's, often by a dword.
+    let memory = match rng.below(8) {
+        0 | 1 => OLDER_MEMORY + rng.pick(&[4, 4, 4, 8, 64, 4096]),
+        2 => MEMORY,
+        _ => OLDER_MEMORY,
+    };
+    let mut screen = screen(rng, memory);
+    let list = if rng.one_in(8) { older_list(rng, &screen) } else { Vec::new() };
+    let count = if rng.one_in(8) { rng.size(40) } else { 0 };
+    let room = match rng.below(12) {
+        0 => OLDER_STREAM - 1,
+        1 => rng.below(OLDER_STREAM),
+        2..=6 => OLDER_STREAM,
+        _ => OLDER_STREAM + rng.below(100),
+    };
+    if rng.one_in(4) {
+        for _ in 0..rng.pick(&[1, 1, 1, 2]) {
+            damage_screen(rng, &mut screen);
+        }
+    }
+    Drawing { screen, list, words: rng.words(count), room: room as usize }
+}
+
+/// A list that is not empty: no whole commands, too many, some that are all zero, or one that the
+/// other chip accepts where the depth allows it.
+fn older_list(rng: &mut Rng, screen: &[u8]) -> Vec<u8> {
+    match rng.below(4) {
+        0 => vec![0; rng.pick(&[1, 31, 33, 64 * 32 + 1])],
+        1 => vec![0; rng.pick(&[65 * 32, 65 * 32 + 1, 128 * 32])],
+        2 => vec![0; 32 * rng.size(64) as usize],
+        _ => command(rng, screen, 0).0,
+    }
+}
+
+/// Bytes of the older chip's registers: any, or each at a limit.
+pub fn older_bytes(rng: &mut Rng) -> [u8; 18] {
+    let any = rng.one_in(2);
+    [(); 18].map(|()| if any { rng.any() as u8 } else { rng.pick(&[0, 1, 0x80, 0xFF]) })
 }
 
 const SCREEN_REGISTERS: [(u32, u32); 6] = [
@@ -604,9 +662,9 @@ pub fn player(rng: &mut Rng) -> (Player, Vec<u8>) {
     (player, stream)
 }
 
-/// Settings, values and a point, mostly accepted.
-pub fn point(rng: &mut Rng) -> (Settings, u32, u32) {
-    let record = screen(rng);
+/// Settings, values and a point, on a chip with a memory of so many bytes: mostly accepted.
+pub fn point(rng: &mut Rng, memory: u64) -> (Settings, u32, u32) {
+    let record = screen(rng, memory);
     let (depth, rotation) = (u32::from(record[0]), u32::from(record[1]));
     let (width, height) = (field(&record, 4, 2), field(&record, 6, 2));
     let (mut across, mut down) = (width, height);
@@ -617,7 +675,11 @@ pub fn point(rng: &mut Rng) -> (Settings, u32, u32) {
         let (start, end) = if rng.one_in(16) { (a, b) } else { (a.min(b), a.max(b)) };
         (start | end << 16) as u32
     };
-    let start = |rng: &mut Rng| rng.offset(0xFFFF) as u32;
+    let last = memory / 4 - 1;
+    let start = |rng: &mut Rng| {
+        let most = rng.pick(&[last, last, 0xFFFF]);
+        rng.offset(most) as u32
+    };
     let offset = |rng: &mut Rng| {
         let most = rng.pick(&[0x3FF, 64, 64]);
         rng.offset(most) as u32
@@ -638,6 +700,17 @@ pub fn point(rng: &mut Rng) -> (Settings, u32, u32) {
         ],
     };
     let (mut p, mut q) = (rng.offset(width - 1) as u32, rng.offset(height - 1) as u32);
+    // Often within a few dwords of either end of the memory.
+    if rng.one_in(4) {
+        let k = u64::from(32 / depth);
+        let (across, down) = if rotation % 2 == 0 { (3 * k, 3) } else { (3, 3 * k) };
+        p = rng.below(across.min(width)) as u32;
+        q = rng.below(down.min(height)) as u32;
+        for i in [0, 2] {
+            let near = rng.pick(&[0, 1, 2, last - 2, last - 1, last, last + 1]);
+            (settings.values[i], settings.values[i + 1]) = (near as u32, rng.below(2) as u32);
+        }
+    }
     for _ in 0..rng.pick(&[0, 0, 0, 0, 1, 1, 2, 3]) {
         let number = match rng.below(8) {
             0 => &mut settings.depth,

@@ -4,6 +4,7 @@
 //! - `reference`: compiling, playing and the point reader, written for speed; what the library is
 //!   compared with and timed against.
 //! - `serial`: playing in blocks, request a) of paper 02, to the same ends.
+//! - `older`: the older chip, request d): compiling, its values and the point reader; not timed.
 //! - `sheet`: the plain sheet, pixel by pixel from the commands, with no register or direction.
 //! - `literal`: an accepted stream played one pixel at a time, in the direction named.
 //! - `unit`: the library, where build.rs found it.
@@ -14,6 +15,7 @@
 pub mod answers;
 pub mod inputs;
 pub mod literal;
+pub mod older;
 pub mod reference;
 pub mod serial;
 pub mod sheet;
@@ -22,6 +24,7 @@ pub mod unit;
 /// Stands in where the library is not there: the reference against itself.
 #[cfg(not(unit))]
 pub mod unit {
+    pub use crate::older;
     pub use crate::reference::{compile, draw, play, read_point};
     pub use crate::serial::{end, feed, new_player};
 }

@@ -1,7 +1,9 @@
 //! Paper 01 with request c) of paper 02, in plain Rust: compiling, playing, the point reader. Playing
-//! in blocks is in `serial`.
+//! in blocks is in `serial`, the older chip in `older`; the screen and the point are read here for a
+//! memory of any size.
 //!
-//! The four public functions are not inlined, so that timing them beside the library is fair.
+//! `compile`, `play`, `draw` and `read_point` are not inlined, so that timing them beside the library
+//! is fair.
 
 use crate::answers::{Compiled, Drawn, Played, Point, Settings};
 
@@ -47,10 +49,11 @@ impl Image {
         self.length * depth / 8
     }
 
-    fn fits(&self, depth: u32) -> bool {
+    /// Whether it lies in a memory of so many bytes.
+    fn fits(&self, depth: u32, memory: usize) -> bool {
         // To the end of the last shown pixel.
         let size = (self.height - 1) * self.line(depth) + self.width * depth / 8;
-        self.base % 4 == 0 && u64::from(self.base) + u64::from(size) <= MEMORY as u64
+        self.base % 4 == 0 && u64::from(self.base) + u64::from(size) <= memory as u64
     }
 
     /// The start register, in dwords.
@@ -75,7 +78,7 @@ impl Image {
     }
 }
 
-struct Screen {
+pub(crate) struct Screen {
     depth: u32,
     rotation: u32,
     flag: u32,
@@ -118,8 +121,8 @@ fn length(given: u32, width: u32, depth: u32) -> Result<u32, u32> {
 }
 
 impl Screen {
-    /// The screen of a record, or refusal 1 to 9 or 26.
-    fn read(record: &[u8]) -> Result<Screen, u32> {
+    /// The screen of a record, on a chip with a memory of so many bytes; or refusal 1 to 9 or 26.
+    pub fn read(record: &[u8], memory: usize) -> Result<Screen, u32> {
         if record.len() != 32 {
             return Err(1);
         }
@@ -140,7 +143,7 @@ impl Screen {
             height: view_height,
             length: length(u16_at(record, 24), view_width, depth)?,
         };
-        if !main.fits(depth) {
+        if !main.fits(depth, memory) {
             return Err(6);
         }
         let mut window = Image {
@@ -159,7 +162,7 @@ impl Screen {
                 return Err(8);
             }
             window.length = length(u16_at(record, 26), w, depth)?;
-            if !window.fits(depth) {
+            if !window.fits(depth, memory) {
                 return Err(9);
             }
         }
@@ -167,7 +170,7 @@ impl Screen {
     }
 
     /// Main start and offset, window start and offset, X, Y.
-    fn values(&self) -> [u32; 6] {
+    pub fn values(&self) -> [u32; 6] {
         let start = |image: &Image| image.start(self.depth, self.rotation);
         let offset = |image: &Image| image.line(self.depth) / 4;
         let main = [start(&self.main), offset(&self.main)];
@@ -192,6 +195,12 @@ impl Screen {
             edges(x_start, x_end),
             edges(y_start, y_end),
         ]
+    }
+
+    /// Compiling's answer, where it accepts with a stream of so many bytes.
+    pub fn accepted(&self, length: usize) -> Compiled {
+        let &Screen { depth, rotation, flag, .. } = self;
+        Compiled { length: length as u64, depth, rotation, flag, ..Compiled::default() }
     }
 }
 
@@ -276,14 +285,20 @@ struct Plan {
     length: usize,
 }
 
+/// How many commands a list has, or refusal 10.
+pub(crate) fn count(list: &[u8]) -> Result<usize, u32> {
+    let count = list.len() / 32;
+    if list.len() % 32 != 0 || count > COMMANDS {
+        return Err(10);
+    }
+    Ok(count)
+}
+
 /// The plan of a list, or refusal 1 to 17 or 26.
 fn plan(screen: &[u8], list: &[u8], words: usize, room: usize) -> Result<Plan, Refusal> {
     let whole = |number| (number, 0);
-    let screen = Screen::read(screen).map_err(whole)?;
-    let count = list.len() / 32;
-    if list.len() % 32 != 0 || count > COMMANDS {
-        return Err((10, 0));
-    }
+    let screen = Screen::read(screen, MEMORY).map_err(whole)?;
+    let count = count(list).map_err(whole)?;
     if count > 0 && screen.depth < 8 {
         return Err((11, 0));
     }
@@ -306,14 +321,17 @@ fn plan(screen: &[u8], list: &[u8], words: usize, room: usize) -> Result<Plan, R
     Ok(Plan { screen, commands, count, length })
 }
 
+/// Puts a record into eight bytes of the stream.
+pub(crate) fn put_record(record: &mut [u8], number: u32, value: u32) {
+    let both = u64::from(number) | u64::from(value) << 32;
+    record.copy_from_slice(&both.to_le_bytes());
+}
+
 impl Plan {
     /// Writes the stream to the front of a buffer that holds it.
     fn write(&self, mut words: &[u16], stream: &mut [u8]) {
         let mut records = stream.chunks_exact_mut(8);
-        let mut put = |number: u32, value: u32| {
-            let record = u64::from(number) | u64::from(value) << 32;
-            records.next().unwrap().copy_from_slice(&record.to_le_bytes());
-        };
+        let mut put = |number: u32, value: u32| put_record(records.next().unwrap(), number, value);
         let depth = self.screen.depth;
         for (number, value) in
             [0x40, 0x44, 0x50, 0x54, 0x58, 0x5C].into_iter().zip(self.screen.values())
@@ -355,13 +373,7 @@ pub fn compile(screen: &[u8], list: &[u8], words: &[u16], stream: &mut [u8]) -> 
     match plan(screen, list, words.len(), stream.len()) {
         Ok(plan) => {
             plan.write(words, stream);
-            Compiled {
-                length: plan.length as u64,
-                depth: plan.screen.depth,
-                rotation: plan.screen.rotation,
-                flag: plan.screen.flag,
-                ..Compiled::default()
-            }
+            plan.screen.accepted(plan.length)
         }
         Err((number, place)) => {
             let (part_at, part_length) =
@@ -725,17 +737,52 @@ pub fn draw(
 /// The colour that a panel point shows.
 #[inline(never)]
 pub fn read_point(screen: &Settings, p: u32, q: u32, memory: &[u8]) -> Point {
-    match point(screen, p, q, memory) {
+    read_point_in(MEMORY, screen, p, q, memory)
+}
+
+/// The same, on a chip with a memory of `size` bytes.
+#[inline(always)]
+pub(crate) fn read_point_in(
+    size: usize,
+    screen: &Settings,
+    p: u32,
+    q: u32,
+    memory: &[u8],
+) -> Point {
+    match colour(size, screen, p, q, memory) {
         Ok(colour) => Point { number: 0, colour },
         Err(number) => Point { number, colour: 0 },
     }
 }
 
-fn point(screen: &Settings, p: u32, q: u32, memory: &[u8]) -> Result<u32, u32> {
-    let &Settings { depth, rotation, flag, width, height, values } = screen;
-    if memory.len() != MEMORY {
+#[inline(always)]
+fn colour(size: usize, screen: &Settings, p: u32, q: u32, memory: &[u8]) -> Result<u32, u32> {
+    if memory.len() != size {
         return Err(18);
     }
+    let (dword, pixel) = walk(screen, p, q)?;
+    if !(0..size as i64 / 4).contains(&dword) {
+        return Err(25);
+    }
+    let dword = 4 * dword as usize;
+    let byte = |i: u32| u32::from(memory[dword + i as usize]);
+    let depth = screen.depth;
+    Ok(match depth {
+        16 => byte(2 * pixel) | byte(2 * pixel + 1) << 8,
+        8 => byte(pixel),
+        _ => {
+            let per_byte = 8 / depth;
+            let shift = 8 - depth * (1 + pixel % per_byte);
+            byte(pixel / per_byte) >> shift & ((1 << depth) - 1)
+        }
+    })
+}
+
+/// The dword where the chip's walk finds a point, inside the memory or not, and the pixel in it; or
+/// refusal 1 to 5, 21 or 24.
+#[inline(always)]
+pub fn walk(screen: &Settings, p: u32, q: u32) -> Result<(i64, u32), u32> {
+    let &Settings { depth, rotation, flag, width, height, values } = screen;
     if flag > 1 {
         return Err(1);
     }
@@ -763,24 +810,10 @@ fn point(screen: &Settings, p: u32, q: u32, memory: &[u8]) -> Result<u32, u32> {
 
     let (s, o) = (i64::from(start), i64::from(offset));
     let (along, across) = (|n: u32| i64::from(n / k), |n: u32| i64::from(n) * o);
-    let (dword, pixel) = match rotation {
+    Ok(match rotation {
         0 => (s + across(q) + along(p), p % k),
         1 => (s + across(p) - along(q), k - 1 - q % k),
         2 => (s - across(q) - along(p), k - 1 - p % k),
         _ => (s - across(p) + along(q), q % k),
-    };
-    if !(0..=65_535).contains(&dword) {
-        return Err(25);
-    }
-    let dword = 4 * dword as usize;
-    let byte = |i: u32| u32::from(memory[dword + i as usize]);
-    Ok(match depth {
-        16 => byte(2 * pixel) | byte(2 * pixel + 1) << 8,
-        8 => byte(pixel),
-        _ => {
-            let per_byte = 8 / depth;
-            let shift = 8 - depth * (1 + pixel % per_byte);
-            byte(pixel / per_byte) >> shift & ((1 << depth) - 1)
-        }
     })
 }

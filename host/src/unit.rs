@@ -1,6 +1,6 @@
 //! The proved library, by the functions of include/s1d.h.
 
-use crate::answers::{Compiled, Drawn, Played, Player, Point, Settings};
+use crate::answers::{Compiled, Drawn, Played, Player, Point, Settings, Values};
 
 extern "C" {
     fn s1d_compile(
@@ -58,14 +58,60 @@ extern "C" {
         memory: *mut u8,
         memory_length: usize,
     ) -> Drawn;
+
+    fn s1d06_compile(
+        screen: *const u8,
+        screen_length: usize,
+        list: *const u8,
+        list_length: usize,
+        words: *const u16,
+        words_length: usize,
+        stream: *mut u8,
+        stream_length: usize,
+    ) -> Compiled;
+
+    fn s1d06_values(bytes: *const u8) -> Values;
+
+    fn s1d06_read_point(
+        depth: u32,
+        rotation: u32,
+        flag: u32,
+        width: u32,
+        height: u32,
+        values: *const u32,
+        p: u32,
+        q: u32,
+        memory: *const u8,
+        memory_length: usize,
+    ) -> Point;
 }
+
+/// Compiling, and the point reader, of either chip.
+type Compile = unsafe extern "C" fn(
+    *const u8,
+    usize,
+    *const u8,
+    usize,
+    *const u16,
+    usize,
+    *mut u8,
+    usize,
+) -> Compiled;
+type ReadPoint =
+    unsafe extern "C" fn(u32, u32, u32, u32, u32, *const u32, u32, u32, *const u8, usize) -> Point;
 
 // Each pointer below comes from a slice with its length, and a slice lent for writing is lent to
 // nobody else.
 
-pub fn compile(screen: &[u8], list: &[u8], words: &[u16], stream: &mut [u8]) -> Compiled {
+fn compile_by(
+    function: Compile,
+    screen: &[u8],
+    list: &[u8],
+    words: &[u16],
+    stream: &mut [u8],
+) -> Compiled {
     unsafe {
-        s1d_compile(
+        function(
             screen.as_ptr(),
             screen.len(),
             list.as_ptr(),
@@ -76,6 +122,10 @@ pub fn compile(screen: &[u8], list: &[u8], words: &[u16], stream: &mut [u8]) -> 
             stream.len(),
         )
     }
+}
+
+pub fn compile(screen: &[u8], list: &[u8], words: &[u16], stream: &mut [u8]) -> Compiled {
+    compile_by(s1d_compile, screen, list, words, stream)
 }
 
 pub fn play(stream: &[u8], memory: &mut [u8]) -> Played {
@@ -94,9 +144,9 @@ pub fn end(player: &mut Player) -> Played {
     unsafe { s1d_end(player) }
 }
 
-pub fn read_point(screen: &Settings, p: u32, q: u32, memory: &[u8]) -> Point {
+fn read_point_by(function: ReadPoint, screen: &Settings, p: u32, q: u32, memory: &[u8]) -> Point {
     unsafe {
-        s1d_read_point(
+        function(
             screen.depth,
             screen.rotation,
             screen.flag,
@@ -109,6 +159,10 @@ pub fn read_point(screen: &Settings, p: u32, q: u32, memory: &[u8]) -> Point {
             memory.len(),
         )
     }
+}
+
+pub fn read_point(screen: &Settings, p: u32, q: u32, memory: &[u8]) -> Point {
+    read_point_by(s1d_read_point, screen, p, q, memory)
 }
 
 pub fn draw(
@@ -131,5 +185,24 @@ pub fn draw(
             memory.as_mut_ptr(),
             memory.len(),
         )
+    }
+}
+
+/// The older chip's functions.
+pub mod older {
+    use super::{compile_by, read_point_by, s1d06_compile, s1d06_read_point, s1d06_values};
+    use crate::answers::{Compiled, Point, Settings, Values};
+    use crate::older::REGISTERS;
+
+    pub fn compile(screen: &[u8], list: &[u8], words: &[u16], stream: &mut [u8]) -> Compiled {
+        compile_by(s1d06_compile, screen, list, words, stream)
+    }
+
+    pub fn values(bytes: &[u8; REGISTERS]) -> Values {
+        unsafe { s1d06_values(bytes.as_ptr()) }
+    }
+
+    pub fn read_point(screen: &Settings, p: u32, q: u32, memory: &[u8]) -> Point {
+        read_point_by(s1d06_read_point, screen, p, q, memory)
     }
 }

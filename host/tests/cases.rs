@@ -1,11 +1,12 @@
-//! Paper 01's cases S1 to S9 and B1 to B4, and cases of paper 02's requests a) and c), on the
-//! reference, and on the library where it is linked.
+//! Paper 01's cases S1 to S9 and B1 to B4, cases of paper 02's requests a), c) and d), and 001's
+//! examples 1 to 8, on the reference, and on the library where it is linked.
 
 use host::answers::{Compiled, Drawn, Played, Player, Point, Settings};
 use host::reference::MEMORY;
 use host::serial::BLOCK;
-use host::{reference, serial, sheet, unit};
+use host::{older, reference, serial, sheet, unit};
 
+#[derive(Clone, Copy)]
 struct Screen {
     depth: u8,
     rotation: u8,
@@ -48,12 +49,30 @@ fn command(operation: u8, surface: u8, code: u8, numbers: [u16; 7]) -> Vec<u8> {
     part
 }
 
+/// Number and value.
+type Record = (u32, u32);
+
+type Compile = fn(&[u8], &[u8], &[u16], &mut [u8]) -> Compiled;
+type Draw = fn(&[u8], &[u8], &[u16], &mut [u8], &mut [u8]) -> Drawn;
+type Read = fn(&Settings, u32, u32, &[u8]) -> Point;
+
 /// Compiles by both; the answer and the stream's records.
-fn compile(screen: &Screen, list: &[u8], words: &[u16]) -> (Compiled, Vec<(u32, u32)>) {
-    let mut stream = vec![0xA5; 4096];
+fn compile(screen: &Screen, list: &[u8], words: &[u16]) -> (Compiled, Vec<Record>) {
+    compile_by([reference::compile, unit::compile], screen, list, words, 4096)
+}
+
+/// Compiles by two functions into a buffer of so many bytes.
+fn compile_by(
+    [ours, theirs]: [Compile; 2],
+    screen: &Screen,
+    list: &[u8],
+    words: &[u16],
+    room: usize,
+) -> (Compiled, Vec<Record>) {
+    let mut stream = vec![0xA5; room];
     let mut other = stream.clone();
-    let answer = reference::compile(&screen.record(), list, words, &mut stream);
-    assert_eq!(answer, unit::compile(&screen.record(), list, words, &mut other));
+    let answer = ours(&screen.record(), list, words, &mut stream);
+    assert_eq!(answer, theirs(&screen.record(), list, words, &mut other));
     assert_eq!(stream, other);
     let half = |bytes: &[u8]| u32::from_le_bytes(bytes.try_into().unwrap());
     let length = answer.length as usize;
@@ -191,9 +210,6 @@ fn odd_lines() {
     }
 }
 
-/// Number and value.
-type Record = (u32, u32);
-
 fn record(number: u32, value: u32) -> Vec<u8> {
     [number.to_le_bytes(), value.to_le_bytes()].concat()
 }
@@ -219,6 +235,12 @@ fn end_at_fault() {
 
 /// The corners of S1's panel, at each rotation, on lines of so many pixels.
 fn corners_on(length: u16) {
+    let values = |screen: &Screen| values(screen).try_into().unwrap();
+    corners_by([reference::read_point, unit::read_point], MEMORY, length, values);
+}
+
+/// The same by two point readers, over a memory of `size` bytes.
+fn corners_by(both: [Read; 2], size: usize, length: u16, values: impl Fn(&Screen) -> [u32; 6]) {
     // Seen from the panel: upper left, upper right, lower left, lower right.
     let want = [[1, 2, 3, 4], [2, 4, 1, 3], [4, 3, 2, 1], [3, 1, 4, 2]];
     for (rotation, want) in (0..).zip(want) {
@@ -226,7 +248,7 @@ fn corners_on(length: u16) {
         let (shown, lines) = if rotation % 2 == 0 { (160, 240) } else { (120, 320) };
         let line = if length == 0 { shown } else { usize::from(length) / 2 };
         // The view's corner pixels: 1 and 2 above, 3 and 4 below.
-        let mut memory = vec![0; MEMORY];
+        let mut memory = vec![0; size];
         let last = (lines - 1) * line;
         memory[0] = 0x10;
         memory[shown - 1] = 0x02;
@@ -238,9 +260,9 @@ fn corners_on(length: u16) {
             flag: 0,
             width: 320,
             height: 240,
-            values: values(&screen).try_into().unwrap(),
+            values: values(&screen),
         };
-        for read in [reference::read_point, unit::read_point] {
+        for read in both {
             let shown = [(0, 0), (319, 0), (0, 239), (319, 239)]
                 .map(|(p, q)| read(&settings, p, q, &memory).colour);
             assert_eq!(shown, want, "rotation {rotation}");
@@ -255,9 +277,6 @@ fn corners() {
 }
 
 // ---- Request c) of 02 ----
-
-type Draw = fn(&[u8], &[u8], &[u16], &mut [u8], &mut [u8]) -> Drawn;
-type Read = fn(&Settings, u32, u32, &[u8]) -> Point;
 
 /// S1 to S4 on lines of 640 pixels.
 #[test]
@@ -765,5 +784,241 @@ fn any_state() {
         assert_eq!(feed(&mut player, &[&word[..], &word].concat(), &mut memory), TAKEN);
         assert_eq!((player.due, player.count), (0, 2));
         assert_eq!(memory[MEMORY - 2..], [9, 1]);
+    }
+}
+
+// ---- Request d) of 02 ----
+
+const OLDER_COMPILE: [Compile; 2] = [older::compile, unit::older::compile];
+const OLDER_READ: [Read; 2] = [older::read_point, unit::older::read_point];
+
+/// The registers' bytes for a screen that is accepted.
+fn older_bytes(screen: &Screen) -> [u8; 18] {
+    let (answer, records) = compile_by(OLDER_COMPILE, screen, &[], &[], 150);
+    let want = Compiled {
+        length: 144,
+        depth: screen.depth.into(),
+        rotation: screen.rotation.into(),
+        flag: screen.window.is_some().into(),
+        ..Compiled::default()
+    };
+    assert_eq!(answer, want);
+    let (registers, bytes): (Vec<u32>, Vec<u32>) = records.into_iter().unzip();
+    let want = [
+        0x74, 0x75, 0x76, 0x78, 0x79, 0x7C, 0x7D, 0x7E, 0x80, 0x81, 0x84, 0x85, 0x88, 0x89, 0x8C,
+        0x8D, 0x90, 0x91,
+    ];
+    assert_eq!(registers, want);
+    let bytes: Vec<u8> = bytes.into_iter().map(|byte| byte.try_into().unwrap()).collect();
+    bytes.try_into().unwrap()
+}
+
+/// The six values that they make, which are the other chip's.
+fn older_values(screen: &Screen) -> [u32; 6] {
+    let bytes = older_bytes(screen);
+    for put_together in [older::values, unit::older::values] {
+        assert_eq!(put_together(&bytes).values[..], values(screen));
+    }
+    older::values(&bytes).values
+}
+
+/// 001's examples 1 to 4: 74h to 76h and 78h to 79h, and no window.
+#[test]
+fn examples_1_to_4() {
+    for (rotation, main) in (0..).zip([
+        [0x00, 0x00, 0x00, 0x28, 0x00],
+        [0x1D, 0x00, 0x00, 0x1E, 0x00],
+        [0x7F, 0x25, 0x00, 0x28, 0x00],
+        [0x62, 0x25, 0x00, 0x1E, 0x00],
+    ]) {
+        let screen = Screen { rotation, ..S1 };
+        let bytes = older_bytes(&screen);
+        assert_eq!(bytes[..5], main);
+        assert_eq!(bytes[5..], [0; 13]);
+        older_values(&screen);
+    }
+}
+
+/// 001's examples 5 to 8, main at 0 and the window behind it, at 9600h.
+#[test]
+fn examples_5_to_8() {
+    let wide = Some((80, 60, 160, 120, 0x9600));
+    let tall = Some((64, 80, 120, 160, 0x9600));
+    // Main start, main offset, window start, window offset, X start, Y start, X end, Y end.
+    let examples = [
+        [
+            0x00, 0x00, 0x00, 0x28, 0x00, 0x80, 0x25, 0x00, 0x14, 0x00, 0x0A, 0x00, 0x3C, 0x00,
+            0x1D, 0x00, 0xB3, 0x00,
+        ],
+        [
+            0x1D, 0x00, 0x00, 0x1E, 0x00, 0x8E, 0x25, 0x00, 0x0F, 0x00, 0x50, 0x00, 0x07, 0x00,
+            0xEF, 0x00, 0x15, 0x00,
+        ],
+        [
+            0x7F, 0x25, 0x00, 0x28, 0x00, 0xDF, 0x2E, 0x00, 0x14, 0x00, 0x0A, 0x00, 0x3C, 0x00,
+            0x1D, 0x00, 0xB3, 0x00,
+        ],
+        [
+            0x62, 0x25, 0x00, 0x1E, 0x00, 0xD1, 0x2E, 0x00, 0x0F, 0x00, 0x50, 0x00, 0x08, 0x00,
+            0xEF, 0x00, 0x16, 0x00,
+        ],
+    ];
+    for ((rotation, window), bytes) in (0..).zip([wide, tall, wide, tall]).zip(examples) {
+        let screen = Screen { rotation, window, ..S1 };
+        assert_eq!(older_bytes(&screen), bytes);
+        older_values(&screen);
+    }
+}
+
+/// High bytes: the longest lines, and a window whose edges are past 255.
+#[test]
+fn high_bytes() {
+    let window = Some((0, 600, 32, 20, 0));
+    let screen = Screen { depth: 1, panel: (32, 640), window, lengths: (0, 32_736), ..S1 };
+    let want = [0, 0, 0, 1, 0, 0, 0, 0, 0xFF, 3, 0, 0, 0x58, 2, 0, 0, 0x6B, 2];
+    assert_eq!(older_bytes(&screen), want);
+    assert_eq!(older_values(&screen), [0, 1, 0, 0x3FF, 0, 0x26B_0258]);
+    let window = Some((0, 10, 32, 20, 0));
+    let screen = Screen { depth: 1, panel: (640, 32), rotation: 3, window, ..S1 };
+    let want = [0x7F, 2, 0, 1, 0, 19, 0, 0, 1, 0, 0x62, 2, 0, 0, 0x75, 2, 0, 0];
+    assert_eq!(older_bytes(&screen), want);
+    assert_eq!(older_values(&screen), [0x27F, 1, 19, 1, 0x275_0262, 0]);
+}
+
+/// Bytes that no screen makes: nothing is masked.
+#[test]
+fn any_bytes() {
+    for values in [older::values, unit::older::values] {
+        let bytes = std::array::from_fn(|i| i as u8 + 1);
+        let want = [0x03_0201, 0x0504, 0x08_0706, 0x0A09, 0x100F_0C0B, 0x1211_0E0D];
+        assert_eq!(values(&bytes).values, want);
+        let most = [0xFF_FFFF, 0xFFFF, 0xFF_FFFF, 0xFFFF, 0xFFFF_FFFF, 0xFFFF_FFFF];
+        assert_eq!(values(&[0xFF; 18]).values, most);
+        assert_eq!(values(&[0; 18]).values, [0; 6]);
+    }
+}
+
+/// The older chip's number of a screen, with a list, words and a buffer of so many bytes.
+fn older_number(screen: &Screen, list: &[u8], words: &[u16], room: usize) -> u32 {
+    let (answer, _) = compile_by(OLDER_COMPILE, screen, list, words, room);
+    if answer.number != 0 {
+        assert_eq!(answer, Compiled { number: answer.number, ..Compiled::default() });
+    }
+    answer.number
+}
+
+/// Images that end at byte 81,920, and a dword further, where the other chip takes them.
+#[test]
+fn last_bases_of_older() {
+    let ends = |screen: Screen, further: Screen, number: u32| {
+        older_values(&screen);
+        assert_eq!(older_number(&further, &[], &[], 144), number);
+        values(&further);
+    };
+    for rotation in 0..4 {
+        let full = Screen { depth: 8, rotation, panel: (320, 256), ..S1 };
+        ends(full, Screen { base: 4, ..full }, 6);
+        // At 90 and 270 degrees 128 lines too: 127 of 640 bytes, and 320 bytes.
+        let panel = if rotation % 2 == 0 { (320, 128) } else { (128, 320) };
+        let long = Screen { panel, lengths: (640, 0), ..full };
+        ends(Screen { base: 320, ..long }, Screen { base: 324, ..long }, 6);
+        // 128 lines of 64 bytes; a line of 4,092 bytes, and 64.
+        let window = |height, base, length| {
+            let window = Some((0, 0, 64, height, base));
+            Screen { window, lengths: (0, length), ..full }
+        };
+        ends(window(128, 73_728, 0), window(128, 73_732, 0), 9);
+        ends(window(2, 77_764, 4092), window(2, 77_768, 4092), 9);
+    }
+    assert_eq!(older_values(&Screen { depth: 8, rotation: 2, panel: (320, 256), ..S1 })[0], 0x4FFF);
+}
+
+/// A list is refused at any depth, before host words, and they before a short buffer.
+#[test]
+fn nothing_but_a_screen() {
+    let fill = command(0, 0, 0, [0, 0, 1, 1, 0, 0, 1]);
+    for depth in [1, 2, 4, 8, 16] {
+        let screen = Screen { depth, panel: (64, 64), ..S1 };
+        for (list, number) in [
+            (&[][..], 0),
+            (&fill, 11),
+            (&fill.repeat(64), 11),
+            (&fill[..31], 10),
+            (&fill.repeat(2)[..33], 10),
+            (&fill.repeat(65), 10),
+        ] {
+            let first = |others: u32| if number == 0 { others } else { number };
+            assert_eq!(older_number(&screen, list, &[], 144), number);
+            assert_eq!(older_number(&screen, list, &[], 145), number);
+            assert_eq!(older_number(&screen, list, &[7], 144), first(16));
+            assert_eq!(older_number(&screen, list, &[7], 143), first(16));
+            assert_eq!(older_number(&screen, list, &[], 143), first(17));
+            assert_eq!(older_number(&screen, list, &[], 0), first(17));
+            // A refused screen comes before all of them.
+            for (bad, number) in [
+                (Screen { lengths: (1, 0), ..screen }, 26),
+                (Screen { base: 81_920, ..screen }, 6),
+                (Screen { window: Some((0, 0, 32, 1, 0)), lengths: (0, 1), ..screen }, 26),
+                (Screen { window: Some((0, 0, 32, 1, 81_920)), ..screen }, 9),
+                (Screen { window: Some((0, 0, 32, 1, 0)), base: 81_920, ..screen }, 6),
+            ] {
+                assert_eq!(older_number(&bad, list, &[7], 0), number);
+            }
+        }
+    }
+}
+
+/// 26 comes before 6 for main, and before 9 for the window.
+#[test]
+fn order_of_26_on_older() {
+    let number = |screen| older_number(&screen, &[], &[], 144);
+    assert_eq!(number(Screen { lengths: (1, 0), base: 81_920, ..S1 }), 26);
+    assert_eq!(number(Screen { lengths: (1, 0), base: 2, ..S1 }), 26);
+    let window = Some((0, 0, 8, 1, 81_920));
+    assert_eq!(number(Screen { window, lengths: (0, 1), ..S1 }), 26);
+    assert_eq!(number(Screen { window, lengths: (0, 8), ..S1 }), 9);
+    assert_eq!(number(Screen { lengths: (0, 8), ..S1 }), 1);
+}
+
+#[test]
+fn corners_of_older() {
+    corners_by(OLDER_READ, older::MEMORY, 0, older_values);
+}
+
+/// The last dword is 20,479; the fields are the other chip's.
+#[test]
+fn dwords_of_older() {
+    let mut memory = vec![0; MEMORY];
+    memory[81_916..81_924].copy_from_slice(&[1, 2, 3, 4, 5, 6, 7, 8]);
+    let number = |number| Point { number, colour: 0 };
+    for (rotation, start, p, want) in [
+        (0, 20_479, 3, Point { number: 0, colour: 4 }),
+        (0, 20_479, 4, number(25)),
+        (0, 20_480, 0, number(25)),
+        (0, 65_535, 0, number(25)),
+        (0, 65_536, 0, number(21)),
+        (2, 20_480, 0, number(25)),
+        (2, 20_480, 4, Point { number: 0, colour: 4 }),
+        (2, 0, 3, number(0)),
+        (2, 0, 4, number(25)),
+        (2, 0, 8, number(24)),
+    ] {
+        let values = [start, 2, 0, 0, 0, 0];
+        let screen = Settings { depth: 8, rotation, flag: 0, width: 8, height: 1, values };
+        for read in OLDER_READ {
+            assert_eq!(read(&screen, p, 0, &memory[..81_920]), want);
+            // 18 comes first.
+            for size in [0, 81_919, 81_921, 262_144] {
+                assert_eq!(read(&screen, p, 0, &memory[..size]), number(18));
+                let odd = Settings { flag: 2, ..screen };
+                assert_eq!(read(&odd, p, 0, &memory[..size]), number(18));
+                assert_eq!(read(&odd, p, 0, &memory[..81_920]), number(1));
+            }
+        }
+        if want == number(25) && rotation == 0 {
+            for read in [reference::read_point, unit::read_point] {
+                assert_eq!(read(&screen, p, 0, &memory).number, 0);
+            }
+        }
     }
 }

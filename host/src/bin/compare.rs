@@ -1,38 +1,91 @@
 //! Compares the library with the reference on random inputs, and the reference with the plain sheet
-//! and with pixel-by-pixel playing; the player that is fed in blocks also with the one that is not.
+//! and with pixel-by-pixel playing; the player that is fed in blocks also with the one that is not,
+//! and the older chip's bytes with the other chip's values.
 //!
 //!     compare [--reference-only] [COUNT [SEED [FIRST]]]
 //!
 //! Inputs are numbered from FIRST (0); each is made from the seed and its number alone, so
 //! `compare 1 SEED NUMBER` repeats one. Ends with status 1 on a difference, or where a refusal
-//! number was never seen, or not by `feed` and `end` where they give it, or 26 not for main and for
-//! the window.
+//! number was never seen, or not by `feed`, `end` and the older chip's functions where they give it,
+//! or where something of `Seen` was not, on either chip.
 
 use std::fmt::{Debug, Write};
 use std::process::ExitCode;
 use std::time::Instant;
 
-use host::answers::{Played, Player, Settings};
+use host::answers::{Compiled, Played, Player, Point, Settings};
 use host::inputs::{self, Drawing, Rng};
 use host::reference::MEMORY;
 use host::serial::{self, BLOCK};
-use host::{literal, reference, sheet, unit, LINKED};
+use host::{literal, older, reference, sheet, unit, LINKED};
 
-const FUNCTIONS: [&str; 6] = ["compile", "play", "point", "draw", "feed", "end"];
+const FUNCTIONS: [&str; 8] =
+    ["compile", "play", "point", "draw", "feed", "end", "compile06", "point06"];
 const COMPILE: usize = 0;
 const PLAY: usize = 1;
 const POINT: usize = 2;
 const DRAW: usize = 3;
 const FEED: usize = 4;
 const END: usize = 5;
+const OLDER_COMPILE: usize = 6;
+const OLDER_POINT: usize = 7;
 
 /// The highest number of a refusal, and those that there are not.
 const HIGHEST: usize = 32;
 const FREE: std::ops::Range<usize> = 27..32;
 
-/// What `feed` and `end` must have given, repeated answers among it.
-const FED: [(usize, &[usize]); 2] =
-    [(FEED, &[0, 18, 19, 20, 21, 22, 23, 32]), (END, &[0, 19, 20, 21, 22, 23])];
+/// What some functions must have given; `feed` and `end`, repeated answers among it.
+const GIVEN: [(usize, &[usize]); 4] = [
+    (FEED, &[0, 18, 19, 20, 21, 22, 23, 32]),
+    (END, &[0, 19, 20, 21, 22, 23]),
+    (OLDER_COMPILE, &[0, 1, 2, 3, 4, 5, 6, 7, 8, 9, 10, 11, 16, 17, 26]),
+    (OLDER_POINT, &[0, 1, 2, 3, 4, 5, 18, 21, 24, 25]),
+];
+
+type Compile = fn(&[u8], &[u8], &[u16], &mut [u8]) -> Compiled;
+type Read = fn(&Settings, u32, u32, &[u8]) -> Point;
+
+/// A chip: the size of its memory, and its functions by the reference and by the library.
+struct Chip {
+    name: &'static str,
+    memory: usize,
+    compile: [Compile; 2],
+    read_point: [Read; 2],
+    /// Where their numbers are counted, and the rest.
+    compiled: usize,
+    read: usize,
+    index: usize,
+}
+
+const NEWER: Chip = Chip {
+    name: "S1D13A05",
+    memory: MEMORY,
+    compile: [reference::compile, unit::compile],
+    read_point: [reference::read_point, unit::read_point],
+    compiled: COMPILE,
+    read: POINT,
+    index: 0,
+};
+const OLDER: Chip = Chip {
+    name: "S1D13706",
+    memory: older::MEMORY,
+    compile: [older::compile, unit::older::compile],
+    read_point: [older::read_point, unit::older::read_point],
+    compiled: OLDER_COMPILE,
+    read: OLDER_POINT,
+    index: 1,
+};
+
+/// What else must be seen of a chip.
+#[derive(Default)]
+struct Seen {
+    /// 26 for main, and for the window.
+    lengths: [u64; 2],
+    /// Screens that are accepted, by rotation and flag.
+    screens: [[u64; 2]; 4],
+    /// Points before the memory's first dword, in its last one, and in the one behind it.
+    dwords: [u64; 3],
+}
 
 /// A difference, in words and with the input.
 type Checked = Result<(), String>;
@@ -47,8 +100,8 @@ struct Bench {
     third: Vec<u8>,
     /// How often each function gave each number.
     seen: [[u64; HIGHEST + 1]; FUNCTIONS.len()],
-    /// How often 26 was main's, and the window's.
-    lengths: [u64; 2],
+    /// How often the rest was seen of each chip.
+    chips: [Seen; 2],
 }
 
 /// One call of a player: the block's place in its bytes, and the length of the memory.
@@ -127,6 +180,27 @@ fn serial_text(begun: &Player, bytes: &[u8], calls: &[Call], pool_at: usize) -> 
     )
 }
 
+/// A memory's length: the chip's, or now and then a wrong one.
+fn memory_length(rng: &mut Rng, chip: &Chip) -> usize {
+    let size = chip.memory;
+    match rng.below(32) {
+        0 => rng.pick(&[0, 1, 100_000, size - 1, size + 1, MEMORY, older::MEMORY]),
+        _ => size,
+    }
+}
+
+/// What the point reader is told of a screen that is accepted.
+fn settings(answer: Compiled, screen: &[u8], values: [u32; 6]) -> Settings {
+    let Compiled { depth, rotation, flag, .. } = answer;
+    let number = |at: usize| u16::from_le_bytes([screen[at], screen[at + 1]]).into();
+    Settings { depth, rotation, flag, width: number(4), height: number(6), values }
+}
+
+/// The values of the records at a stream's front.
+fn record_values<const N: usize>(stream: &[u8]) -> [u32; N] {
+    std::array::from_fn(|i| u32::from_le_bytes(stream[8 * i + 4..8 * i + 8].try_into().unwrap()))
+}
+
 impl Bench {
     fn new(seed: u64) -> Bench {
         let mut rng = Rng::new(seed, u64::MAX);
@@ -138,16 +212,12 @@ impl Bench {
             stream: Default::default(),
             third: Vec::new(),
             seen: [[0; HIGHEST + 1]; FUNCTIONS.len()],
-            lengths: [0; 2],
+            chips: Default::default(),
         }
     }
 
-    /// The same random bytes in both memories, now and then of a wrong length.
-    fn prepare_memory(&mut self, rng: &mut Rng) -> usize {
-        let length = match rng.below(32) {
-            0 => rng.pick(&[0, 1, 100_000, MEMORY - 1, MEMORY + 1]),
-            _ => MEMORY,
-        };
+    /// The same random bytes in both memories, from somewhere in the pool.
+    fn prepare_memory(&mut self, rng: &mut Rng, length: usize) -> usize {
         let at = rng.below(MEMORY as u64) as usize;
         for memory in &mut self.memory {
             memory.clear();
@@ -170,56 +240,89 @@ impl Bench {
                 inputs::damage(rng, &mut drawing);
             }
         }
-        self.prepare_stream(drawing.room);
         drawing
     }
 
     /// Counts a number of compiling or drawing; 26 is main's where the screen gets it without its
     /// window too.
-    fn count(&mut self, function: usize, number: u32, screen: &[u8]) {
+    fn count(&mut self, chip: &Chip, function: usize, number: u32, screen: &[u8]) {
         self.seen[function][number as usize] += 1;
-        if number == 26 {
-            let mut alone = screen.to_vec();
-            alone[2] = 0;
-            alone[12..24].fill(0);
-            alone[26..28].fill(0);
-            let main = reference::compile(&alone, &[], &[], &mut [0; 48]).number == 26;
-            self.lengths[usize::from(!main)] += 1;
+        let seen = &mut self.chips[chip.index];
+        match number {
+            0 => seen.screens[usize::from(screen[1])][usize::from(screen[2])] += 1,
+            26 => {
+                let mut alone = screen.to_vec();
+                alone[2] = 0;
+                alone[12..24].fill(0);
+                alone[26..28].fill(0);
+                let main = chip.compile[0](&alone, &[], &[], &mut [0; 48]).number == 26;
+                seen.lengths[usize::from(!main)] += 1;
+            }
+            _ => {}
         }
     }
 
-    /// One list: compiled, played and read.
-    fn compile(&mut self, rng: &mut Rng) -> Checked {
-        let drawing = self.drawing(rng);
-        let Drawing { screen, list, words, .. } = &drawing;
-        let input = || drawing_text(&drawing);
+    /// Compiles by both.
+    fn compile_on(&mut self, chip: &Chip, drawing: &Drawing) -> Result<Compiled, String> {
+        self.prepare_stream(drawing.room);
+        let Drawing { screen, list, words, .. } = drawing;
+        let input = || format!("  {}\n{}", chip.name, drawing_text(drawing));
         let [stream, other] = &mut self.stream;
-        let answer = reference::compile(screen, list, words, stream);
-        let theirs = unit::compile(screen, list, words, other);
+        let answer = chip.compile[0](screen, list, words, stream);
+        let theirs = chip.compile[1](screen, list, words, other);
         same("compile", answer, theirs, input)?;
         same_bytes("compile's stream", stream, other, input)?;
         // A refusal leaves the buffer, acceptance the bytes past the stream.
         let length = answer.length as usize;
         same_bytes("past the stream", &stream[length..], &self.pool[length..drawing.room], input)?;
-        self.count(COMPILE, answer.number, screen);
+        self.count(chip, chip.compiled, answer.number, screen);
+        Ok(answer)
+    }
+
+    /// One list: compiled, played and read.
+    fn compile(&mut self, rng: &mut Rng) -> Checked {
+        let drawing = self.drawing(rng);
+        let answer = self.compile_on(&NEWER, &drawing)?;
         if answer.number != 0 {
             return Ok(());
         }
-        self.stream[0].truncate(length);
-        let settings = Settings {
-            depth: answer.depth,
-            rotation: answer.rotation,
-            flag: answer.flag,
-            width: u16::from_le_bytes([screen[4], screen[5]]).into(),
-            height: u16::from_le_bytes([screen[6], screen[7]]).into(),
-            values: [0; 6],
-        };
-        let at = self.prepare_memory(rng);
+        self.stream[0].truncate(answer.length as usize);
+        let length = memory_length(rng, &NEWER);
+        let at = self.prepare_memory(rng, length);
         let number = self.play(at)?;
         if number != 0 {
             return Ok(());
         }
-        self.against_sheet(rng, at, &drawing, settings)
+        self.third.clear();
+        self.third.extend_from_slice(&self.pool[at..at + MEMORY]);
+        sheet::draw(&drawing.screen, &drawing.list, &drawing.words, &mut self.third);
+        same_bytes("the sheet", &self.memory[0], &self.third, || drawing_text(&drawing))?;
+        // The six screen records stand first in the stream.
+        let values = record_values(&self.stream[0]);
+        self.against_sheet(rng, &NEWER, &drawing, settings(answer, &drawing.screen, values))
+    }
+
+    /// One screen of the older chip: compiled, its bytes put together, and read.
+    fn older(&mut self, rng: &mut Rng) -> Checked {
+        let drawing = inputs::older(rng);
+        let answer = self.compile_on(&OLDER, &drawing)?;
+        if answer.number != 0 {
+            return Ok(());
+        }
+        let screen = &drawing.screen;
+        let bytes = record_values(&self.stream[1]).map(|value| value as u8);
+        let values = unit::older::values(&bytes).values;
+        let input = || format!("  bytes: {}\n{}", hex(&bytes), drawing_text(&drawing));
+        same("values", older::values(&bytes).values, values, input)?;
+        // They are the other chip's, which holds the screen too.
+        let mut stream = [0; 48];
+        reference::compile(screen, &[], &[], &mut stream);
+        same("the screen's values", record_values(&stream), values, input)?;
+        // Without a list the sheet is the memory.
+        let at = self.prepare_memory(rng, older::MEMORY);
+        self.third.clear();
+        self.third.extend_from_slice(&self.pool[at..at + older::MEMORY]);
+        self.against_sheet(rng, &OLDER, &drawing, settings(answer, screen, values))
     }
 
     /// Plays the stream over both memories, which begin as the pool from `at`.
@@ -243,33 +346,44 @@ impl Bench {
         Ok(answer.number)
     }
 
-    /// The memory and the panel's points against the sheet.
+    /// One point, read by both from the memory.
+    fn read(
+        &mut self,
+        chip: &Chip,
+        settings: &Settings,
+        (p, q): (u32, u32),
+        input: impl Fn() -> String,
+    ) -> Result<Point, String> {
+        let memory = &self.memory[0];
+        let answer = chip.read_point[0](settings, p, q, memory);
+        let theirs = chip.read_point[1](settings, p, q, memory);
+        same("point", answer, theirs, input)?;
+        self.seen[chip.read][answer.number as usize] += 1;
+        if let (0 | 25, Ok((dword, _))) = (answer.number, reference::walk(settings, p, q)) {
+            let past = chip.memory as i64 / 4;
+            let [before, last, behind] = &mut self.chips[chip.index].dwords;
+            *before += u64::from(dword < 0);
+            *last += u64::from(dword == past - 1);
+            *behind += u64::from(dword == past);
+        }
+        Ok(answer)
+    }
+
+    /// The panel's points against the sheet, which is the third memory.
     fn against_sheet(
         &mut self,
         rng: &mut Rng,
-        at: usize,
+        chip: &Chip,
         drawing: &Drawing,
-        mut settings: Settings,
+        settings: Settings,
     ) -> Checked {
-        let input = || drawing_text(drawing);
-        let memory = &self.memory[0];
-        // The six screen records stand first in the stream.
-        for (i, value) in settings.values.iter_mut().enumerate() {
-            *value = u32::from_le_bytes(self.stream[0][8 * i + 4..8 * i + 8].try_into().unwrap());
-        }
-        self.third.clear();
-        self.third.extend_from_slice(&self.pool[at..at + MEMORY]);
-        sheet::draw(&drawing.screen, &drawing.list, &drawing.words, &mut self.third);
-        same_bytes("the sheet", memory, &self.third, input)?;
         let (width, height) = (settings.width, settings.height);
         let mut read = |p: u32, q: u32| {
-            let answer = reference::read_point(&settings, p, q, memory);
-            let theirs = unit::read_point(&settings, p, q, memory);
-            self.seen[POINT][answer.number as usize] += 1;
-            let at = || format!("  {settings:?} ({p}, {q})\n{}", input());
-            same("point", answer, theirs, at)?;
+            let input =
+                || format!("  {} {settings:?} ({p}, {q})\n{}", chip.name, drawing_text(drawing));
+            let Point { number, colour } = self.read(chip, &settings, (p, q), input)?;
             let shown = sheet::shows(&drawing.screen, &self.third, p as usize, q as usize);
-            same("the sheet's point", (answer.number, answer.colour), (0, shown), at)
+            same("the sheet's point", (number, colour), (0, shown), input)
         };
         if width * height <= 4096 {
             for q in 0..height {
@@ -291,9 +405,10 @@ impl Bench {
     /// One list, compiled and played in one call.
     fn draw(&mut self, rng: &mut Rng) -> Checked {
         let drawing = self.drawing(rng);
-        let at = self.prepare_memory(rng);
+        self.prepare_stream(drawing.room);
+        let length = memory_length(rng, &NEWER);
+        let at = self.prepare_memory(rng, length);
         let Drawing { screen, list, words, .. } = &drawing;
-        let length = self.memory[0].len();
         let input =
             || format!("{}\n  memory: {length} bytes, pool from {at}", drawing_text(&drawing));
         let [stream, other_stream] = &mut self.stream;
@@ -303,14 +418,15 @@ impl Bench {
         same("draw", answer, theirs, input)?;
         same_bytes("draw's stream", stream, other_stream, input)?;
         same_bytes("draw's memory", memory, other_memory, input)?;
-        self.count(DRAW, answer.number, screen);
+        self.count(&NEWER, DRAW, answer.number, screen);
         Ok(())
     }
 
     /// One stream, compiled or foreign, whole or changed.
     fn stream(&mut self, rng: &mut Rng) -> Checked {
         self.stream[0] = any_stream(rng);
-        let at = self.prepare_memory(rng);
+        let length = memory_length(rng, &NEWER);
+        let at = self.prepare_memory(rng, length);
         self.play(at)?;
         Ok(())
     }
@@ -477,28 +593,42 @@ impl Bench {
     }
 
     /// A few points of settings that no compiling made.
-    fn points(&mut self, rng: &mut Rng) -> Checked {
-        self.prepare_memory(rng);
-        let memory = &self.memory[0];
+    fn points(&mut self, rng: &mut Rng, chip: &Chip) -> Checked {
+        let length = memory_length(rng, chip);
+        let at = self.prepare_memory(rng, length);
         for _ in 0..16 {
-            let (settings, p, q) = inputs::point(rng);
-            let answer = reference::read_point(&settings, p, q, memory);
-            let theirs = unit::read_point(&settings, p, q, memory);
-            self.seen[POINT][answer.number as usize] += 1;
-            same("point", answer, theirs, || {
-                format!("  {settings:?} ({p}, {q})\n  memory: {} bytes", memory.len())
+            let (settings, p, q) = inputs::point(rng, chip.memory as u64);
+            self.read(chip, &settings, (p, q), || {
+                let name = chip.name;
+                format!(
+                    "  {name} {settings:?} ({p}, {q})\n  memory: {length} bytes, pool from {at}"
+                )
+            })?;
+        }
+        Ok(())
+    }
+
+    /// A few values of bytes that no compiling made.
+    fn values(&mut self, rng: &mut Rng) -> Checked {
+        for _ in 0..16 {
+            let bytes = inputs::older_bytes(rng);
+            same("values", older::values(&bytes), unit::older::values(&bytes), || {
+                format!("  bytes: {}", hex(&bytes))
             })?;
         }
         Ok(())
     }
 
     fn input(&mut self, rng: &mut Rng) -> Checked {
-        match rng.below(12) {
+        match rng.below(18) {
             0..=3 => self.compile(rng),
             4 => self.draw(rng),
             5..=7 => self.stream(rng),
             8..=10 => self.serial(rng),
-            _ => self.points(rng),
+            11 => self.points(rng, &NEWER),
+            12..=15 => self.older(rng),
+            16 => self.points(rng, &OLDER),
+            _ => self.values(rng),
         }
     }
 }
@@ -550,17 +680,21 @@ fn main() -> ExitCode {
         let missed = |&(function, numbers): &(usize, &[usize])| {
             row[function] == 0 && numbers.contains(&number)
         };
-        let missed = row.iter().all(|&times| times == 0)
-            || FED.iter().any(missed)
-            || number == 26 && bench.lengths.contains(&0);
-        if missed {
+        if row.iter().all(|&times| times == 0) || GIVEN.iter().any(missed) {
             unseen.push(number);
         }
     }
-    let [main, window] = bench.lengths;
-    print!("{report}\n26 for main {main}, for the window {window}\n");
-    if !unseen.is_empty() {
-        println!("\nnever seen: {unseen:?}");
+    println!("{report}");
+    let mut missed = !unseen.is_empty();
+    for (chip, seen) in [NEWER, OLDER].iter().zip(&bench.chips) {
+        let Seen { lengths, screens, dwords } = seen;
+        println!("{}: 26 for main and for the window {lengths:?}", chip.name);
+        println!("  accepted by rotation, without and with the window {screens:?}");
+        println!("  points before the first dword, in the last, behind it {dwords:?}");
+        missed |= lengths.iter().chain(screens.as_flattened()).chain(dwords).any(|&n| n == 0);
+    }
+    if missed {
+        println!("\nnot all seen; numbers {unseen:?}");
         return ExitCode::FAILURE;
     }
     ExitCode::SUCCESS
