@@ -11,43 +11,9 @@ ghost use mathlib.Core.Path.{_≡_};
 ghost use Rattle.screen.specs.Screen.{memorySize};
 ghost use Rattle.command.specs.Task.{task};
 ghost use Rattle.unit.specs.Draw.{drawing, answerOf, memoryDrawn};
-ghost use Rattle.files.specs.System.{YesOrNo};
-use reader::Display;
 use screen::ScreenAnswer;
 use screen::ScreenValues;
 use unit::Drawn;
-
-// Writes the picture's head; answers whether it could.
-fn print_head(d: Display) -> bool
-    ensures { λ r. ⌜ YesOrNo r ⌝ }
-{
-    let mut line = [0u8; 64];
-    let n = picture_code::put_head(d, &mut line);
-    files::print(&line[..n])
-}
-
-// Writes line q of the picture, at most 1,024 points of three bytes; answers whether it could.
-fn print_line(d: Display, values: ScreenValues, q: u32, memory: &[u8]) -> bool
-    ensures { λ r. ⌜ YesOrNo r ⌝ }
-{
-    let mut line = [0u8; 3072];
-    let n = picture_code::put_points(d, values, q, memory, &mut line);
-    files::print(&line[..n])
-}
-
-// The whole picture.
-fn print_picture(d: Display, values: ScreenValues, memory: &[u8]) {
-    if !print_head(d) {
-        return;
-    }
-    let mut q = 0;
-    while q < d.height {
-        if !print_line(d, values, q, memory) {
-            return;
-        }
-        q += 1;
-    }
-}
 
 // The picture of a screen with the six values that playing left, over the memory that drawing left.
 fn show(screen: &[u8], values: ScreenValues, memory: &[u8]) {
@@ -58,7 +24,7 @@ fn show(screen: &[u8], values: ScreenValues, memory: &[u8]) {
         }
         ScreenAnswer::Accepted(s) => {
             let d = reader_code::display_of(s);
-            print_picture(d, values, memory);
+            picture_print::print_picture(d, values, memory);
         }
     }
 }

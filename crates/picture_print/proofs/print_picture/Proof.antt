@@ -1,7 +1,7 @@
 use Prim.Native.Nat.{_-_, _≤_}
 use borrow.Author.Needs.{needs}
-use Rattle.panel.proofs.print_picture.Statement.{statement}
-use Rattle.panel.proofs.print_picture.Tie as tie
+use Rattle.picture_print.proofs.print_picture.Statement.{statement}
+use Rattle.picture_print.proofs.print_picture.Tie as tie
 
 abbrev Inv-loop : tie.InvT-loop
 Inv-loop d values memory q₀ q = q ≤ d .height
