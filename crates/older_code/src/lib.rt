@@ -5,6 +5,7 @@ ghost use lib.ListN.{length};
 ghost use lib.Seq.{sets};
 ghost use Rattle.record.specs.Checks.{firstOf};
 ghost use Rattle.record.specs.Record.{streamBytes};
+ghost use Rattle.screen.specs.Narrow.{Narrow};
 ghost use Rattle.command.specs.Task.{commandSize, task};
 ghost use Rattle.compiler.specs.Compile.{compilingOf, answerOf, numbersOf};
 ghost use Rattle.compiler.specs.Part.{RefusedPart};
@@ -79,6 +80,7 @@ fn bytes_of(v: ScreenValues) -> [u64; 18]
 // The six values that eighteen such bytes make.
 pub fn values_from(bytes: &[u8; 18]) -> ScreenValues
     ensures { λ r. ⌜ r ≡ olderValues (now (bytes .entry)) ⌝ }
+    ensures { λ r. ⌜ Narrow r ⌝ }
 {
     let b = &bytes[..];
     let main = Origin {

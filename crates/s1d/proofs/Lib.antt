@@ -1,3 +1,1 @@
-pub mod Fits
-pub mod Answers
 pub mod Lent

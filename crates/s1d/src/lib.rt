@@ -10,43 +10,16 @@ ghost use Rattle.reader.specs.Read.{reading};
 ghost use Rattle.unit.specs.Draw.{drawing, streamDrawn, memoryDrawn};
 ghost use Rattle.serial.specs.State.{newPlayer};
 ghost use Rattle.serial.specs.Serial.{feeding, endedPlayer, endAnswer, answerOf};
-ghost use Rattle.s1d.specs.Answers.{compiledOf, displayWith, pointOf, drawnOf};
-use chip::Played;
-use compiler::Compiled;
+ghost use Rattle.older.specs.Bytes.{olderMemory, olderValues};
+ghost use Rattle.older.specs.Compile.{olderCompiling, olderBuffer};
+ghost use Rattle.answers.specs.Answers.{compiledOf, displayWith, pointOf, drawnOf, valuesIn};
+use answers::S1dCompiled;
+use answers::S1dDrawn;
+use answers::S1dPoint;
+use answers::S1dValues;
 use reader::Display;
-use reader::PointAnswer;
 use serial::Answer;
 use serial::Player;
-use unit::Drawn;
-
-// What compiling gives back, and where the refused command stands in the list.
-#[repr(C)]
-pub struct S1dCompiled {
-    pub number: u32,
-    pub place: u64,
-    pub length: u64,
-    pub depth: u32,
-    pub rotation: u32,
-    pub flag: u32,
-    pub part_at: u64,
-    pub part_length: u64,
-}
-
-// What the point reader gives back.
-#[repr(C)]
-pub struct S1dPoint {
-    pub number: u32,
-    pub colour: u32,
-}
-
-// What drawing gives back: compiling's length and playing's values.
-#[repr(C)]
-pub struct S1dDrawn {
-    pub number: u32,
-    pub place: u64,
-    pub length: u64,
-    pub values: [u32; 6],
-}
 
 // Compiles a screen record, a list and host words into the stream buffer.
 #[no_mangle]
@@ -60,29 +33,7 @@ pub extern "C" fn s1d_compile(
     ensures { λ r. ⌜ now (stream .exit) ≡ bufferAfter memorySize (task (now (screen .entry)) (now (list .entry)) (now (words .entry))) (now (stream .entry)) ⌝ }
 {
     let answer = compiler_code::compile_into(screen, list, words, stream);
-    let part = compiler_code::part_of(list, answer);
-    match answer {
-        Compiled::Accepted(length, depth, rotation, flag) => S1dCompiled {
-            number: 0,
-            place: 0,
-            length,
-            depth,
-            rotation,
-            flag,
-            part_at: part.at,
-            part_length: part.length,
-        },
-        Compiled::Refused(number, place) => S1dCompiled {
-            number,
-            place,
-            length: 0,
-            depth: 0,
-            rotation: 0,
-            flag: 0,
-            part_at: part.at,
-            part_length: part.length,
-        },
-    }
+    answers_code::compiled_of(answer, list)
 }
 
 // Plays a stream over the display memory.
@@ -92,18 +43,7 @@ pub extern "C" fn s1d_play(stream: &[u8], memory: &mut [u8]) -> Answer
     ensures { λ r. ⌜ now (memory .exit) ≡ played memorySize (now (stream .entry)) (now (memory .entry)) ⌝ }
 {
     let answer = chip_code::play(stream, memory);
-    match answer {
-        Played::Accepted(v) => Answer {
-            number: 0,
-            place: 0,
-            values: screen_values::six_values(v),
-        },
-        Played::Refused(fault, index) => Answer {
-            number: fault,
-            place: index,
-            values: [0, 0, 0, 0, 0, 0],
-        },
-    }
+    answers_code::played_of(answer)
 }
 
 // The colour that panel point (p, q) shows.
@@ -130,13 +70,7 @@ pub extern "C" fn s1d_read_point(
     };
     let v = screen_values::values_given(*values);
     let answer = reader_code::read_point(d, v, p, q, memory);
-    match answer {
-        PointAnswer::Colour(colour) => S1dPoint {
-            number: 0,
-            colour: colour as u32,
-        },
-        PointAnswer::Refused(number) => S1dPoint { number, colour: 0 },
-    }
+    answers_code::point_of(answer)
 }
 
 // Compiles, then plays the stream.
@@ -153,20 +87,7 @@ pub extern "C" fn s1d_draw(
     ensures { λ r. ⌜ now (memory .exit) ≡ memoryDrawn memorySize (task (now (screen .entry)) (now (list .entry)) (now (words .entry))) (length (now (stream .entry))) (now (memory .entry)) ⌝ }
 {
     let answer = unit_code::draw(screen, list, words, stream, memory);
-    match answer {
-        Drawn::Accepted(size, v) => S1dDrawn {
-            number: 0,
-            place: 0,
-            length: size,
-            values: screen_values::six_values(v),
-        },
-        Drawn::Refused(number, command) => S1dDrawn {
-            number,
-            place: command,
-            length: 0,
-            values: [0, 0, 0, 0, 0, 0],
-        },
-    }
+    answers_code::drawn_of(answer)
 }
 
 // A player that has read nothing.
@@ -198,4 +119,54 @@ pub extern "C" fn s1d_end(player: &mut Player) -> Answer
     let next = serial_code::take_end(*player);
     *player = next.player;
     next.answer
+}
+
+// Compiles a screen record for the S1D13706 into the stream buffer.
+#[no_mangle]
+pub extern "C" fn s1d06_compile(
+    screen: &[u8],
+    list: &[u8],
+    words: &[u16],
+    stream: &mut [u8],
+) -> S1dCompiled
+    ensures { λ r. ⌜ r ≡ compiledOf (olderCompiling (task (now (screen .entry)) (now (list .entry)) (now (words .entry))) (length (now (stream .entry)))) (now (list .entry)) ⌝ }
+    ensures { λ r. ⌜ now (stream .exit) ≡ olderBuffer (task (now (screen .entry)) (now (list .entry)) (now (words .entry))) (now (stream .entry)) ⌝ }
+{
+    let older = older_code::compile_into(screen, list, words, stream);
+    answers_code::compiled_of(older, list)
+}
+
+// The six values that the S1D13706's eighteen register bytes make.
+#[no_mangle]
+pub extern "C" fn s1d06_values(bytes: &[u8; 18]) -> S1dValues
+    ensures { λ r. ⌜ r ≡ valuesIn (olderValues (now (bytes .entry))) ⌝ }
+{
+    answers_code::values_in(older_code::values_from(bytes))
+}
+
+// The colour that panel point (p, q) shows in the S1D13706's memory.
+#[no_mangle]
+pub extern "C" fn s1d06_read_point(
+    depth: u32,
+    rotation: u32,
+    flag: u32,
+    width: u32,
+    height: u32,
+    values: &[u32; 6],
+    p: u32,
+    q: u32,
+    memory: &[u8],
+) -> S1dPoint
+    ensures { λ r. ⌜ r ≡ pointOf (reading olderMemory (displayWith depth rotation flag width height) (valuesWith (now (values .entry))) p q (now (memory .entry))) ⌝ }
+{
+    let d = Display {
+        depth,
+        rotation,
+        flag,
+        width,
+        height,
+    };
+    let v = screen_values::values_given(*values);
+    let older = older_code::read_point(d, v, p, q, memory);
+    answers_code::point_of(older)
 }

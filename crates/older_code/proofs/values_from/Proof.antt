@@ -1,4 +1,5 @@
 use Rattle.older.specs.Bytes.{olderValues}
+use native.Mathlib.Omega.{arith}
 use borrow.Author.Needs.{needs}
 use Rattle.older_code.proofs.values_from.Statement.{statement}
 use Rattle.older_code.proofs.values_from.Tie as tie
@@ -65,7 +66,17 @@ add-t15 c = search needs
 
 returns : tie.Need-returns
 unfolding olderValues
-returns c = simp (c .before .before .before .before .before .before .before .u24-at .ensures, c .before .before .before .before .before .u24-at2 .ensures, c .before .before .before .before .before .before .u16-at .ensures, c .before .before .before .before .u16-at2 .ensures, c .before .before .before .u16-at3 .ensures, c .before .before .u16-at4 .ensures, c .before .u16-at5 .ensures, c .u16-at6 .ensures)
+returns c = (
+  simp (c .before .before .before .before .before .before .before .u24-at .ensures, c .before .before .before .before .before .u24-at2 .ensures, c .before .before .before .before .before .before .u16-at .ensures, c .before .before .before .before .u16-at2 .ensures, c .before .before .before .u16-at3 .ensures, c .before .before .u16-at4 .ensures, c .before .u16-at5 .ensures, c .u16-at6 .ensures),
+  record {
+    main-start = omega arith;
+    main-offset = omega arith;
+    window-start = omega arith;
+    window-offset = omega arith;
+    x = omega arith;
+    y = omega arith;
+  },
+)
 
 pub values-from-spec : {M : Type 1} → statement M
 values-from-spec =

@@ -2,15 +2,17 @@
 use Prim.Native.Nat.{ℕ}
 use mathlib.Core.List.{List}
 use Rattle.screen.specs.Values.{sixValues}
+use Rattle.screen.specs.declared.ScreenValues.{ScreenValues}
 use Rattle.command.specs.Task.{commandSize}
 use Rattle.compiler.specs.Compile.{Compiling}
 use Rattle.compiler.specs.Part.{partFrom, partSize}
 use Rattle.reader.specs.Read.{Reading}
 use Rattle.reader.specs.declared.Display.{Display}
 use Rattle.unit.specs.Draw.{Drawing}
-use Rattle.s1d.specs.declared.S1dCompiled.{S1dCompiled}
-use Rattle.s1d.specs.declared.S1dPoint.{S1dPoint}
-use Rattle.s1d.specs.declared.S1dDrawn.{S1dDrawn}
+use Rattle.answers.specs.declared.S1dCompiled.{S1dCompiled}
+use Rattle.answers.specs.declared.S1dPoint.{S1dPoint}
+use Rattle.answers.specs.declared.S1dDrawn.{S1dDrawn}
+use Rattle.answers.specs.declared.S1dValues.{S1dValues}
 
 -- compiling's numbers, and where the refused command's part of the list starts, with its length
 unfoldable pub compiledOf : Compiling → List ℕ → S1dCompiled
@@ -37,3 +39,7 @@ pointOf r = record { number = r .number; colour = r .colour }
 -- drawing's number, place, length and six values
 unfoldable pub drawnOf : Drawing → S1dDrawn
 drawnOf d = record { number = d .number; place = d .place; length = d .length; values = sixValues (d .values) }
+
+-- six values in the stream's order
+unfoldable pub valuesIn : ScreenValues → S1dValues
+valuesIn v = record { values = sixValues v }

@@ -1,5 +1,6 @@
 -- The screen values that playing and drawing give lie in their fields, and so fit 32 bits.
 use Prim.Native.Nat.{ℕ, _/_, _%_, _<_, _≤_}
+use mathlib.Core.Path.{_≡_, sym, subst}
 use mathlib.Core.List.{List}
 use mathlib.Core.Bool.{not}
 use native.Mathlib.Omega.{arith}
@@ -9,20 +10,23 @@ use borrow.Author.Tests.{eqb-true, leb-true}
 use Rattle.record.specs.Record.{recordsOf}
 use Rattle.record.proofs.Choice.{both-ways}
 use Rattle.record.specs.declared.Record.{Record}
+use Rattle.screen.specs.Screen.{memorySize}
 use Rattle.screen.specs.declared.ScreenValues.{ScreenValues}
 use Rattle.screen.specs.Narrow.{Narrow}
 use Rattle.screen.proofs.Fits.{EdgesFit, InFields, edges-say, values-fit}
 use Rattle.chip.specs.Register.{fits}
-use Rattle.chip.specs.Play.{noValues, newChip, run, Playing, ending, playing}
+use Rattle.chip.specs.Play.{noValues, newChip, run, Playing, ending, playing, playingOf}
 use Rattle.chip.specs.declared.Chip.{Chip}
+use Rattle.chip.specs.declared.Played.{Played}
 use Rattle.chip.specs.declared.Run.{Run}
 use Rattle.chip.proofs.Screens.{Each, each-run}
 use Rattle.command.specs.Task.{Task, screenIn}
 use Rattle.compiler.specs.Compile.{compiling}
 use Rattle.compiler.proofs.Accepted.{compiled-says}
-use Rattle.unit.specs.Draw.{Drawing, drawing}
+use Rattle.unit.specs.Draw.{Drawing, drawing, drawingOf}
+use Rattle.unit.specs.declared.Drawn.{Drawn}
 
-pub narrow : (v : ScreenValues) → InFields v → Narrow v
+narrow : (v : ScreenValues) → InFields v → Narrow v
 narrow v f =
     record {
       main-start = omega (arith, f .main .start);
@@ -33,7 +37,7 @@ narrow v f =
       y = omega (arith, f .y .end);
     }
 
-pub nothing-fits : InFields noValues
+nothing-fits : InFields noValues
 nothing-fits =
     record {
       main = record { start = omega arith; offset = omega arith };
@@ -83,18 +87,21 @@ ending-fits r n f =
     both-ways Fine (not (eqb (r .number) 0)) _ _ (λ t. nothing-fits)
     (λ t. both-ways Fine (r .chip .due .any) _ _ (λ u. nothing-fits) (λ u. f))
 
-pub playing-fits : (m : ℕ) (stream memory : List ℕ) → InFields (playing m stream memory .values)
+playing-fits : (m : ℕ) (stream memory : List ℕ) → InFields (playing m stream memory .values)
 unfolding playing
 playing-fits m stream memory =
     both-ways Fine (not (eqb (length memory) m)) _ _ (λ t. nothing-fits)
     (λ t. both-ways Fine (not (eqb (length stream % 8) 0)) _ _ (λ u. nothing-fits)
     (λ u. ending-fits (run m newChip 0 (recordsOf stream)) (length stream / 8) (run-fits m newChip 0 (recordsOf stream) new-fits)))
 
+pub play-narrow : (a : Played) (m : ℕ) (stream memory : List ℕ) → playingOf a ≡ playing m stream memory → Narrow (playingOf a .values)
+play-narrow a m stream memory e = narrow (playingOf a .values) (subst Fine (sym e) (playing-fits m stream memory))
+
 -- ---- drawing
 abbrev FineDrawn : Drawing → Type 0
 FineDrawn d = InFields (d .values)
 
-pub drawing-fits : (m : ℕ) → m ≤ 262144 → (t : Task) (room : ℕ) (memory : List ℕ) → InFields (drawing m t room memory .values)
+drawing-fits : (m : ℕ) → m ≤ 262144 → (t : Task) (room : ℕ) (memory : List ℕ) → InFields (drawing m t room memory .values)
 unfolding drawing
 drawing-fits m small t room memory =
     both-ways FineDrawn (not (eqb (length memory) m)) _ _ (λ e. nothing-fits)
@@ -103,3 +110,6 @@ drawing-fits m small t room memory =
     let a = compiled-says m t room (eqb-true _ 0 u) .task in
     values-fit m (screenIn t) small (a .fields) (a .flag))
     (λ u. nothing-fits))
+
+pub draw-narrow : (a : Drawn) (t : Task) (room : ℕ) (memory : List ℕ) → drawingOf a ≡ drawing memorySize t room memory → Narrow (drawingOf a .values)
+draw-narrow a t room memory e = narrow (drawingOf a .values) (subst FineDrawn (sym e) (drawing-fits memorySize (omega arith) t room memory))

@@ -1,0 +1,111 @@
+-- The structs that the C library gives back, one law for each way out.
+use Prim.Native.Nat.{ℕ}
+use mathlib.Core.Path.{_≡_, sym, ap, subst, refl, _∙_}
+use mathlib.Core.List.{List, [], _∷_}
+use Rattle.screen.specs.declared.Screen.{Screen}
+use Rattle.screen.specs.declared.ScreenValues.{ScreenValues}
+use Rattle.screen.specs.Narrow.{Narrow}
+use Rattle.screen.specs.Values.{sixValues}
+use Rattle.command.specs.Task.{commandSize}
+use Rattle.compiler.specs.Compile.{Compiling, compilingOf}
+use Rattle.compiler.specs.Part.{partFrom, partSize}
+use Rattle.compiler.specs.declared.Compiled.{Compiled}
+use Rattle.compiler.specs.declared.Compiled.the-variants as Compiled
+use Rattle.chip.specs.Play.{playingOf}
+use Rattle.chip.specs.declared.Played.{Played}
+use Rattle.chip.specs.declared.Played.the-variants as Played
+use Rattle.reader.specs.Read.{displayOf, reading, readingOf}
+use Rattle.reader.specs.declared.Display.{Display}
+use Rattle.reader.specs.declared.PointAnswer.{PointAnswer}
+use Rattle.reader.specs.declared.PointAnswer.the-variants as PointAnswer
+use Rattle.unit.specs.Draw.{drawingOf}
+use Rattle.unit.specs.declared.Drawn.{Drawn}
+use Rattle.unit.specs.declared.Drawn.the-variants as Drawn
+use Rattle.serial.specs.Serial.{answerOf}
+use Rattle.answers.specs.declared.S1dCompiled.{S1dCompiled}
+use Rattle.answers.specs.declared.S1dPoint.{S1dPoint}
+use Rattle.answers.specs.Answers.{compiledOf, displayWith, pointOf, drawnOf, valuesIn}
+
+-- ---- compiling
+module _ (a : Compiled) (list : List ℕ) (from size : ℕ)
+    (part : (from ≡ partFrom commandSize list (compilingOf a)) × (size ≡ partSize commandSize list (compilingOf a))) where
+  -- an answer that is x
+  compiled-as : (x : Compiled) → a ≡ x
+      → record { number = compilingOf x .number; place = compilingOf x .place; length = compilingOf x .length; depth = compilingOf x .depth; rotation = compilingOf x .rotation; flag = compilingOf x .flag; «part_at» = from; «part_length» = size }
+      ≡ compiledOf (compilingOf a) list
+  unfolding compiledOf
+  compiled-as x e =
+      λ t. let c = compilingOf (sym e t) in record { number = c .number; place = c .place; length = c .length; depth = c .depth; rotation = c .rotation; flag = c .flag; «part_at» = part .0 t; «part_length» = part .1 t }
+
+  pub compiled-accepted : (n d r f : ℕ) → a ≡ Compiled.Accepted n d r f
+      → record { number = 0; place = 0; length = n; depth = d; rotation = r; flag = f; «part_at» = from; «part_length» = size } ≡ compiledOf (compilingOf a) list
+  unfolding compilingOf
+  compiled-accepted n d r f e = compiled-as (Compiled.Accepted n d r f) e
+
+  pub compiled-refused : (n i : ℕ) → a ≡ Compiled.Refused n i
+      → record { number = n; place = i; length = 0; depth = 0; rotation = 0; flag = 0; «part_at» = from; «part_length» = size } ≡ compiledOf (compilingOf a) list
+  unfolding compilingOf
+  compiled-refused n i e = compiled-as (Compiled.Refused n i) e
+
+-- an answer whose numbers are c
+pub compiled-with : (r : S1dCompiled) (a : Compiled) (c : Compiling) (list : List ℕ) → r ≡ compiledOf (compilingOf a) list → compilingOf a ≡ c → r ≡ compiledOf c list
+compiled-with r a c list e f = e ∙ ap (λ (x : Compiling). compiledOf x list) f
+
+-- ---- playing
+module _ (a : Played) where
+  pub played-narrow : (v : ScreenValues) → a ≡ Played.Accepted v → Narrow (playingOf a .values) → Narrow v
+  unfolding playingOf
+  played-narrow v e f = subst (λ (x : Played). Narrow (playingOf x .values)) e f
+
+  pub played-accepted : (v : ScreenValues) (six : List ℕ) → a ≡ Played.Accepted v → six ≡ sixValues v
+      → record { number = 0; place = 0; values = six } ≡ answerOf (playingOf a)
+  unfolding answerOf playingOf
+  played-accepted v six e h =
+      ap (λ (x : List ℕ). record { number = 0; place = 0; values = x }) h ∙ ap (λ (x : Played). answerOf (playingOf x)) (sym e)
+
+  pub played-refused : (n i : ℕ) → a ≡ Played.Refused n i
+      → record { number = n; place = i; values = 0 ∷ 0 ∷ 0 ∷ 0 ∷ 0 ∷ 0 ∷ [] } ≡ answerOf (playingOf a)
+  unfolding answerOf playingOf
+  played-refused n i e = ap (λ (x : Played). answerOf (playingOf x)) (sym e)
+
+-- ---- reading a point
+-- a screen's numbers make its display
+pub display-with : (s : Screen) → displayWith (s .depth) (s .rotation) (s .flag) (s .width) (s .height) ≡ displayOf s
+unfolding displayOf
+display-with s = refl
+
+module _ (a : PointAnswer) where
+  pub point-accepted : (k : ℕ) → a ≡ PointAnswer.Colour k → record { number = 0; colour = k } ≡ pointOf (readingOf a)
+  unfolding pointOf readingOf
+  point-accepted k e = ap (λ (x : PointAnswer). pointOf (readingOf x)) (sym e)
+
+  pub point-refused : (n : ℕ) → a ≡ PointAnswer.Refused n → record { number = n; colour = 0 } ≡ pointOf (readingOf a)
+  unfolding pointOf readingOf
+  point-refused n e = ap (λ (x : PointAnswer). pointOf (readingOf x)) (sym e)
+
+-- an answer read from values that are w
+pub point-with : (r : S1dPoint) (a : PointAnswer) (m : ℕ) (d : Display) (v w : ScreenValues) (p q : ℕ) (memory : List ℕ)
+    → r ≡ pointOf (readingOf a) → readingOf a ≡ reading m d v p q memory → v ≡ w → r ≡ pointOf (reading m d w p q memory)
+point-with r a m d v w p q memory e f h = e ∙ ap pointOf (f ∙ ap (λ (x : ScreenValues). reading m d x p q memory) h)
+
+-- ---- drawing
+module _ (a : Drawn) where
+  pub drawn-narrow : (n : ℕ) (v : ScreenValues) → a ≡ Drawn.Accepted n v → Narrow (drawingOf a .values) → Narrow v
+  unfolding drawingOf
+  drawn-narrow n v e f = subst (λ (x : Drawn). Narrow (drawingOf x .values)) e f
+
+  pub drawn-accepted : (n : ℕ) (v : ScreenValues) (six : List ℕ) → a ≡ Drawn.Accepted n v → six ≡ sixValues v
+      → record { number = 0; place = 0; length = n; values = six } ≡ drawnOf (drawingOf a)
+  unfolding drawnOf drawingOf
+  drawn-accepted n v six e h =
+      ap (λ (x : List ℕ). record { number = 0; place = 0; length = n; values = x }) h ∙ ap (λ (x : Drawn). drawnOf (drawingOf x)) (sym e)
+
+  pub drawn-refused : (n i : ℕ) → a ≡ Drawn.Refused n i
+      → record { number = n; place = i; length = 0; values = 0 ∷ 0 ∷ 0 ∷ 0 ∷ 0 ∷ 0 ∷ [] } ≡ drawnOf (drawingOf a)
+  unfolding drawnOf drawingOf
+  drawn-refused n i e = ap (λ (x : Drawn). drawnOf (drawingOf x)) (sym e)
+
+-- ---- six values
+pub values-are : (v : ScreenValues) (six : List ℕ) → six ≡ sixValues v → record { values = six } ≡ valuesIn v
+unfolding valuesIn
+values-are v six e = ap (λ (x : List ℕ). record { values = x }) e

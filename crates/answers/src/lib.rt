@@ -1,0 +1,36 @@
+// What the C library gives back (include/s1d.h): numbers alone, the same for both chips.
+
+// What compiling gives back, and where the refused command stands in the list.
+#[repr(C)]
+pub struct S1dCompiled {
+    pub number: u32,
+    pub place: u64,
+    pub length: u64,
+    pub depth: u32,
+    pub rotation: u32,
+    pub flag: u32,
+    pub part_at: u64,
+    pub part_length: u64,
+}
+
+// What the point reader gives back.
+#[repr(C)]
+pub struct S1dPoint {
+    pub number: u32,
+    pub colour: u32,
+}
+
+// What drawing gives back: compiling's length and playing's values.
+#[repr(C)]
+pub struct S1dDrawn {
+    pub number: u32,
+    pub place: u64,
+    pub length: u64,
+    pub values: [u32; 6],
+}
+
+// The six screen values.
+#[repr(C)]
+pub struct S1dValues {
+    pub values: [u32; 6],
+}

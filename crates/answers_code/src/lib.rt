@@ -1,0 +1,111 @@
+// The answers of compiling, playing, reading and drawing as the C library's structs of numbers.
+ghost use mathlib.Core.Path.{_≡_};
+ghost use Rattle.screen.specs.Narrow.{Narrow};
+ghost use Rattle.compiler.specs.Compile.{compilingOf};
+ghost use Rattle.chip.specs.Play.{playingOf};
+ghost use Rattle.reader.specs.Read.{readingOf};
+ghost use Rattle.unit.specs.Draw.{drawingOf};
+ghost use Rattle.serial.specs.Serial.{answerOf};
+ghost use Rattle.answers.specs.Answers.{compiledOf, pointOf, drawnOf, valuesIn};
+use answers::S1dCompiled;
+use answers::S1dDrawn;
+use answers::S1dPoint;
+use answers::S1dValues;
+use chip::Played;
+use compiler::Compiled;
+use reader::PointAnswer;
+use screen::ScreenValues;
+use serial::Answer;
+use unit::Drawn;
+
+// Compiling's answer, with the refused command's part of the list.
+pub fn compiled_of(c: Compiled, list: &[u8]) -> S1dCompiled
+    ensures { λ r. ⌜ r ≡ compiledOf (compilingOf c) (now (list .entry)) ⌝ }
+{
+    let part = compiler_code::part_of(list, c);
+    match c {
+        Compiled::Accepted(length, depth, rotation, flag) => S1dCompiled {
+            number: 0,
+            place: 0,
+            length,
+            depth,
+            rotation,
+            flag,
+            part_at: part.at,
+            part_length: part.length,
+        },
+        Compiled::Refused(number, place) => S1dCompiled {
+            number,
+            place,
+            length: 0,
+            depth: 0,
+            rotation: 0,
+            flag: 0,
+            part_at: part.at,
+            part_length: part.length,
+        },
+    }
+}
+
+// Playing's answer.
+pub fn played_of(a: Played) -> Answer
+    requires { ⌜ Narrow (playingOf a .values) ⌝ }
+    ensures { λ r. ⌜ r ≡ answerOf (playingOf a) ⌝ }
+{
+    match a {
+        Played::Accepted(v) => Answer {
+            number: 0,
+            place: 0,
+            values: screen_values::six_values(v),
+        },
+        Played::Refused(fault, index) => Answer {
+            number: fault,
+            place: index,
+            values: [0, 0, 0, 0, 0, 0],
+        },
+    }
+}
+
+// The point reader's answer.
+pub fn point_of(a: PointAnswer) -> S1dPoint
+    ensures { λ r. ⌜ r ≡ pointOf (readingOf a) ⌝ }
+{
+    match a {
+        PointAnswer::Colour(colour) => S1dPoint {
+            number: 0,
+            colour: colour as u32,
+        },
+        PointAnswer::Refused(number) => S1dPoint { number, colour: 0 },
+    }
+}
+
+// Drawing's answer.
+pub fn drawn_of(a: Drawn) -> S1dDrawn
+    requires { ⌜ Narrow (drawingOf a .values) ⌝ }
+    ensures { λ r. ⌜ r ≡ drawnOf (drawingOf a) ⌝ }
+{
+    match a {
+        Drawn::Accepted(size, v) => S1dDrawn {
+            number: 0,
+            place: 0,
+            length: size,
+            values: screen_values::six_values(v),
+        },
+        Drawn::Refused(number, command) => S1dDrawn {
+            number,
+            place: command,
+            length: 0,
+            values: [0, 0, 0, 0, 0, 0],
+        },
+    }
+}
+
+// Six screen values.
+pub fn values_in(v: ScreenValues) -> S1dValues
+    requires { ⌜ Narrow v ⌝ }
+    ensures { λ r. ⌜ r ≡ valuesIn v ⌝ }
+{
+    S1dValues {
+        values: screen_values::six_values(v),
+    }
+}
