@@ -1,7 +1,7 @@
 #!/usr/bin/env python3
 """Writes the example files beside it: a wear chart of 24 hourly columns, upright and turned, in grey and in colour; one of 48
-columns, and screen records that show the last 24 of them; and damaged ones. The same list and words serve every rotation; only
-the screen record differs."""
+columns, and screen records that show the last 24 of them; a screen of the older units; and damaged ones. The same list and words
+serve every rotation; only the screen record differs."""
 import struct
 from pathlib import Path
 
@@ -33,10 +33,14 @@ DIGITS = {'0': '01110 10001 10011 10101 11001 10001 01110', '1': '00100 01100 00
 MARKER = ['11111', '01110', '00100']
 
 
+def record(depth, rotation, panel, bases, place, window, line=0):
+    return struct.pack('<BBBBHHIIHHHHHH4x', depth, rotation, 1, 0, *panel, *bases, *place, *window, line, 0)
+
+
 def screen(depth, rotation, width, height, place=PLACE, whole=WIDTH, first=0, line=0):
     """The record of a panel that shows the columns from `first` on of an image of `whole` columns; the window's image is behind."""
-    base, small = first * depth // 8, whole * HEIGHT * depth // 8
-    return struct.pack('<BBBBHHIIHHHHHH4x', depth, rotation, 1, 0, width, height, base, small, *place, *WINDOW, line, 0)
+    bases = first * depth // 8, whole * HEIGHT * depth // 8
+    return record(depth, rotation, (width, height), bases, place, WINDOW, line)
 
 
 def command(operation, surface, x, y, w, h, raster=0, source=(0, 0), colour=0):
@@ -114,6 +118,7 @@ half = dict(place=(72, 20), whole=WIDE, first=WIDE - WIDTH, line=WIDE)
 part = screen(16, 0, WIDTH, HEIGHT, **half)
 write('part.screen', part)
 write('part-90.screen', screen(16, 1, HEIGHT, WIDTH, **half))
+write('older.screen', record(4, 1, (320, 240), (0, 0x9600), (64, 80), (120, 160)))   # 001's example 6, for the S1D13706
 
 write('damaged.screen', screen(8, 0, WIDTH + 4, HEIGHT))           # a panel width that is no multiple of 8: refused 4
 at = 7 * 32 + 10                                                   # command 7, the first bar: its height

@@ -1,11 +1,22 @@
 // compile SCREEN LIST [WORDS]
+// compile 13706 SCREEN [LIST [WORDS]]
 // Compiles the screen record, the command list and the host words of the named files, and prints the stream, a line for each
 // record: its number and its value. A refusal is the one line `refused NUMBER PLACE: REASON` and, for 12 to 15, a line with the
 // bytes of the refused command. Where a file cannot be read, or its words not be taken, standard output stays empty.
 //
-// WORDS: two bytes a word, low byte first, at most 262,144 words; none where it is left out or `-`. The stream: at most
+// The word 13706 compiles for the older S1D13706 (a file of that name is ./13706), whose LIST is empty where it is left out or
+// `-`. WORDS: two bytes a word, low byte first, at most 262,144 words; none where it is left out or `-`. The stream: at most
 // 2,097,152 bytes, else 17. The buffers are on the stack.
-ghost use Rattle.files.specs.System.{YesOrNo};
+ghost use Prim.Native.Nat.{_≤_};
+ghost use mathlib.Core.Path.{_≡_};
+ghost use mathlib.Core.Bool.{cond};
+ghost use lib.ListN.{length};
+ghost use Rattle.command.specs.Task.{commandSize, task};
+ghost use Rattle.compiler.specs.Compile.{numbersOf};
+ghost use Rattle.compiler.specs.Part.{RefusedPart};
+ghost use Rattle.files.specs.System.{YesOrNo, LoadedBytes};
+ghost use Rattle.compile.specs.Chip.{compilingFor, bufferFor};
+use files::Loaded;
 
 // Prints the lines of a part of a stream, at most 1,024 of them; answers whether it could.
 fn print_lines(part: &[u8]) -> bool
@@ -40,10 +51,30 @@ fn print_part(part: &[u8]) {
     files::print(&bytes);
 }
 
-fn run(screen: &[u8], list: &[u8], words: &[u16]) {
+// Compiles for the S1D13706 or the S1D13A05, stores the answer's numbers, and hands back the refused command's part of the list.
+fn compile_for<'a>(
+    older: bool,
+    screen: &[u8],
+    list: &'a [u8],
+    words: &[u16],
+    stream: &mut [u8],
+    answer: &mut [u64; 6],
+) -> &'a [u8]
+    ensures { λ r. ⌜ RefusedPart commandSize (list .entry) r (compilingFor older (task (now (screen .entry)) (now (list .entry)) (now (words .entry))) (length (now (stream .entry)))) ⌝ }
+    ensures { λ r. ⌜ now (answer .exit) ≡ numbersOf (compilingFor older (task (now (screen .entry)) (now (list .entry)) (now (words .entry))) (length (now (stream .entry)))) ⌝ }
+    ensures { λ r. ⌜ now (stream .exit) ≡ bufferFor older (task (now (screen .entry)) (now (list .entry)) (now (words .entry))) (now (stream .entry)) ⌝ }
+{
+    if older {
+        return older_code::compile(screen, list, words, stream, answer);
+    }
+    compiler_code::compile(screen, list, words, stream, answer)
+}
+
+// Compiles, and prints the stream or the refusal.
+fn run(older: bool, screen: &[u8], list: &[u8], words: &[u16]) {
     let mut stream = files::stream();
     let mut answer = [0u64; 6];
-    let part = compiler_code::compile(screen, list, words, &mut stream, &mut answer);
+    let part = compile_for(older, screen, list, words, &mut stream, &mut answer);
     if answer[0] != 0 {
         files::print_refusal(answer[0], answer[1]);
         print_part(part);
@@ -53,29 +84,64 @@ fn run(screen: &[u8], list: &[u8], words: &[u16]) {
     print_stream(&stream[..n]);
 }
 
+// Reads the list of the file that argument i names; the S1D13706's is empty where it is left out.
+fn load_list(older: bool, i: usize, list: &mut [u8]) -> Loaded
+    ensures { λ r. ⌜ LoadedBytes (now (list .entry)) (now (list .exit)) r ⌝ }
+{
+    if older && files::is_left_out(i) {
+        return Loaded { ok: true, n: 0 };
+    }
+    files::load(i, list)
+}
+
+// Whether argument 1 is the word 13706.
+fn is_older() -> bool
+    ensures { λ r. ⌜ YesOrNo r ⌝ }
+{
+    let mut word = [0u8; 5];
+    let n = os::arg(1, &mut word);
+    check::same(&word[..n], b"13706")
+}
+
+// Which argument names the screen record: the one behind that word, or the first.
+fn screen_at(older: bool) -> usize
+    ensures { λ r. ⌜ r ≡ cond older 2 1 ⌝ }
+    ensures { λ r. ⌜ r ≤ 2 ⌝ }
+{
+    if older {
+        return 2;
+    }
+    1
+}
+
 fn main() {
+    let older = is_older();
+    let first = screen_at(older);
     let count = os::arg_count();
-    if count < 3 || 4 < count {
-        files::say(b"usage", b"compile SCREEN LIST [WORDS]");
+    if count < 3 || first + 3 < count {
+        files::say(
+            b"usage",
+            b"compile SCREEN LIST [WORDS], or compile 13706 SCREEN [LIST [WORDS]]",
+        );
         return;
     }
     let mut screen = [0u8; 33];
-    let s = files::load(1, &mut screen);
+    let s = files::load(first, &mut screen);
     if !s.ok {
         return;
     }
     let mut list = [0u8; 2049];
-    let l = files::load(2, &mut list);
+    let l = load_list(older, first + 1, &mut list);
     if !l.ok {
         return;
     }
     let mut words = files::words();
-    let w = files::load_words(3, &mut words);
+    let w = files::load_words(first + 2, &mut words);
     if !w.ok {
         return;
     }
     let ns = s.n;
     let nl = l.n;
     let nw = w.n;
-    run(&screen[..ns], &list[..nl], &words[..nw]);
+    run(older, &screen[..ns], &list[..nl], &words[..nw]);
 }

@@ -8,14 +8,15 @@ use Rattle.command.specs.Task.{task}
 use Rattle.compiler.specs.Compile.{compiling, bufferAfter, compilingOf, answerOf as compiledFrom}
 use Rattle.compiler.specs.declared.Compiled.{Compiled}
 use Rattle.compiler.specs.declared.Compiled.the-variants as compiled
+use Rattle.older.specs.Compile.{olderCompiling, olderBuffer}
 use Rattle.chip.specs.Play.{playing, played, answerOf as playedFrom}
 use Rattle.chip.specs.declared.Played.{Played}
 use Rattle.script.specs.Script.{numberAt, numberPut, scanByte, scanBytes, numberOf, fieldsPut, wordsPut}
-use Rattle.script.specs.Steps.{screenStep, commandStep, wordStep, storeStep, patchStep, exampleStep, keepStep, compileStep, playStep, deskAfter, wordsAfter, streamPatched, keptAfter, memoryAfter, screenOn, listOn, wordsOn, compiledAfter, streamAfter, streamOn, playedAfter, memoryPlayed}
+use Rattle.script.specs.Steps.{screenStep, commandStep, wordStep, storeStep, patchStep, exampleStep, keepStep, compileStep, olderStep, playStep, deskAfter, wordsAfter, streamPatched, keptAfter, memoryAfter, screenOn, listOn, wordsOn, compiledAfter, streamAfter, streamOn, playedAfter, memoryPlayed}
 
--- scre, comm, word, stor, patc, exam, keep, comp, play
-pub letter-cases : map (λ l. numberAt l 0) ((115 ∷ 99 ∷ 114 ∷ 101 ∷ []) ∷ (99 ∷ 111 ∷ 109 ∷ 109 ∷ []) ∷ (119 ∷ 111 ∷ 114 ∷ 100 ∷ []) ∷ (115 ∷ 116 ∷ 111 ∷ 114 ∷ []) ∷ (112 ∷ 97 ∷ 116 ∷ 99 ∷ []) ∷ (101 ∷ 120 ∷ 97 ∷ 109 ∷ []) ∷ (107 ∷ 101 ∷ 101 ∷ 112 ∷ []) ∷ (99 ∷ 111 ∷ 109 ∷ 112 ∷ []) ∷ (112 ∷ 108 ∷ 97 ∷ 121 ∷ []) ∷ [])
-    ≡ screenStep ∷ commandStep ∷ wordStep ∷ storeStep ∷ patchStep ∷ exampleStep ∷ keepStep ∷ compileStep ∷ playStep ∷ []
+-- scre, comm, word, stor, patc, exam, keep, comp, olde, play
+pub letter-cases : map (λ l. numberAt l 0) ((115 ∷ 99 ∷ 114 ∷ 101 ∷ []) ∷ (99 ∷ 111 ∷ 109 ∷ 109 ∷ []) ∷ (119 ∷ 111 ∷ 114 ∷ 100 ∷ []) ∷ (115 ∷ 116 ∷ 111 ∷ 114 ∷ []) ∷ (112 ∷ 97 ∷ 116 ∷ 99 ∷ []) ∷ (101 ∷ 120 ∷ 97 ∷ 109 ∷ []) ∷ (107 ∷ 101 ∷ 101 ∷ 112 ∷ []) ∷ (99 ∷ 111 ∷ 109 ∷ 112 ∷ []) ∷ (111 ∷ 108 ∷ 100 ∷ 101 ∷ []) ∷ (112 ∷ 108 ∷ 97 ∷ 121 ∷ []) ∷ [])
+    ≡ screenStep ∷ commandStep ∷ wordStep ∷ storeStep ∷ patchStep ∷ exampleStep ∷ keepStep ∷ compileStep ∷ olderStep ∷ playStep ∷ []
 unfolding numberAt
 letter-cases = refl
 
@@ -70,10 +71,12 @@ part-cases = (refl, refl)
 module _ (c : Compiled) (p : Played) (desk words stream memory : List ℕ) (room : ℕ) where
   pub compile-cases : (compiledAfter compileStep c desk words room ≡ compiledFrom (compiling memorySize (task (screenOn desk) (listOn desk) (wordsOn desk words)) room))
       × (streamAfter compileStep desk words stream ≡ bufferAfter memorySize (task (screenOn desk) (listOn desk) (wordsOn desk words)) stream)
+      × (compiledAfter olderStep c desk words room ≡ compiledFrom (olderCompiling (task (screenOn desk) (listOn desk) (wordsOn desk words)) room))
+      × (streamAfter olderStep desk words stream ≡ olderBuffer (task (screenOn desk) (listOn desk) (wordsOn desk words)) stream)
       × (compiledAfter playStep c desk words room ≡ c)
       × (streamAfter playStep desk words stream ≡ stream)
   unfolding compiledAfter streamAfter
-  compile-cases = (refl, refl, refl, refl)
+  compile-cases = (refl, refl, refl, refl, refl, refl)
 
   pub play-cases : (playedAfter playStep p c stream memory ≡ playedFrom (playing memorySize (streamOn c stream) memory))
       × (memoryPlayed playStep c stream memory ≡ played memorySize (streamOn c stream) memory)

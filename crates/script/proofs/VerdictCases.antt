@@ -7,7 +7,7 @@ use Rattle.compiler.specs.Compile.{compilingOf}
 use Rattle.compiler.specs.declared.Compiled.the-variants.{Accepted, Refused}
 use Rattle.chip.specs.declared.Played.the-variants.{Refused as Played·Refused}
 use Rattle.script.specs.Script.{numberAt, scanByte, scanBytes, numberOf}
-use Rattle.script.specs.Steps.{exampleStep, storeStep, playStep}
+use Rattle.script.specs.Steps.{exampleStep, storeStep, compileStep, olderStep, playStep}
 use Rattle.script.specs.Verdict.{regStep, recordsStep, pointStep, sameStep, doneStep, isAnswer, isPlayed, isRecord, hasRecords, isPoint, sameBytes, isComment, holds, judged}
 use Rattle.script.specs.declared.Tally.{Tally}
 
@@ -66,6 +66,15 @@ records-cases = (refl, refl)
 -- the verdict on a line, with compiling accepted and playing refused, and two memories that differ
 abbrev verdict : ℕ → List ℕ → Bool
 verdict k l = holds k l (Accepted 64 8 0 0) (Played·Refused 0 0) [] [] (1 ∷ []) (2 ∷ [])
+
+-- `older`, without a number
+abbrev bare : List ℕ
+bare = 111 ∷ 108 ∷ 100 ∷ 101 ∷ 114 ∷ []
+
+-- compiling that was accepted, at either of its steps: its number is 0, and not 8
+pub compiled-cases : verdict compileStep eight ∷ verdict olderStep eight ∷ verdict compileStep bare ∷ verdict olderStep bare ∷ [] ≡ false ∷ false ∷ true ∷ true ∷ []
+unfolding compilingOf scanByte scanBytes numberOf holds
+compiled-cases = refl
 
 -- playing that was refused does not hold, nor a line that is no step; a step that sets, and a comment, do
 pub verdict-cases : verdict playStep [] ∷ verdict sameStep [] ∷ verdict pointStep eight ∷ verdict 0 eight ∷ verdict storeStep eight ∷ verdict doneStep eight ∷ verdict 0 (35 ∷ []) ∷ []

@@ -12,6 +12,7 @@ use Rattle.screen.specs.Screen.{memorySize}
 use Rattle.command.specs.Task.{Task, task}
 use Rattle.compiler.specs.Compile.{compiling, bufferAfter, compilingOf, answerOf as compiledFrom}
 use Rattle.compiler.specs.declared.Compiled.{Compiled}
+use Rattle.older.specs.Compile.{olderCompiling, olderBuffer}
 use Rattle.chip.specs.Play.{playing, played, answerOf as playedFrom}
 use Rattle.chip.specs.declared.Played.{Played}
 use Rattle.script.specs.Script.{numberAt, numberPut, fieldsPut, stored, wordsPut}
@@ -48,6 +49,10 @@ keepStep = 0x7065656B
 -- comp
 abbrev pub compileStep : ℕ
 compileStep = 0x706D6F63
+
+-- olde
+abbrev pub olderStep : ℕ
+olderStep = 0x65646C6F
 
 -- play
 abbrev pub playStep : ℕ
@@ -105,15 +110,17 @@ wordsOn desk words = take (numberAt desk 68) words
 abbrev pub taskOn : List ℕ → List ℕ → Task
 taskOn desk words = task (screenOn desk) (listOn desk) (wordsOn desk words)
 
--- the answer of the last compiling, into a stream buffer of `room` bytes
+-- the answer of the last compiling, for the S1D13A05 or the older S1D13706, into a stream buffer of `room` bytes
 unfoldable pub compiledAfter : ℕ → Compiled → List ℕ → List ℕ → ℕ → Compiled
 compiledAfter k old desk words room =
-    cond (eqb k compileStep) (compiledFrom (compiling memorySize (taskOn desk words) room)) old
+    cond (eqb k compileStep) (compiledFrom (compiling memorySize (taskOn desk words) room))
+    (cond (eqb k olderStep) (compiledFrom (olderCompiling (taskOn desk words) room)) old)
 
 -- the stream buffer
 unfoldable pub streamAfter : ℕ → List ℕ → List ℕ → List ℕ → List ℕ
 streamAfter k desk words stream =
-    cond (eqb k compileStep) (bufferAfter memorySize (taskOn desk words) stream) stream
+    cond (eqb k compileStep) (bufferAfter memorySize (taskOn desk words) stream)
+    (cond (eqb k olderStep) (olderBuffer (taskOn desk words) stream) stream)
 
 -- what is played: the stream in the length that compiling gave
 abbrev pub streamOn : Compiled → List ℕ → List ℕ

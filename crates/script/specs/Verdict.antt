@@ -15,7 +15,7 @@ use Rattle.reader.specs.declared.Display.{Display}
 use Rattle.reader.specs.declared.PointAnswer.{PointAnswer}
 use Rattle.reader.specs.declared.PointAnswer.the-variants.{Colour, Refused}
 use Rattle.script.specs.Script.{numberAt, numberOf}
-use Rattle.script.specs.Steps.{screenStep, commandStep, wordStep, storeStep, patchStep, exampleStep, keepStep, compileStep, playStep}
+use Rattle.script.specs.Steps.{screenStep, commandStep, wordStep, storeStep, patchStep, exampleStep, keepStep, compileStep, olderStep, playStep}
 use Rattle.script.specs.declared.Tally.{Tally}
 
 -- ---- the steps that only compare, and the end of an example
@@ -108,7 +108,7 @@ isComment line = eqb (length line) 0 || eqb (byteAt line 0) 35
 -- a line is as the papers have it; a line that is neither a step nor a comment is not
 unfoldable pub holds : ℕ → List ℕ → Compiled → Played → List ℕ → List ℕ → List ℕ → List ℕ → Bool
 holds k line c p desk stream memory kept =
-    cond (eqb k compileStep) (isAnswer line c)
+    cond (eqb k compileStep || eqb k olderStep) (isAnswer line c)
     (cond (eqb k playStep) (isPlayed p)
     (cond (eqb k regStep) (isRecord line c stream)
     (cond (eqb k recordsStep) (hasRecords line c)

@@ -27,6 +27,8 @@ pub const KEEP: u32 = 0x7065656B;
 
 pub const COMPILE: u32 = 0x706D6F63;
 
+pub const OLDER: u32 = 0x65646C6F;
+
 pub const PLAY: u32 = 0x79616C70;
 
 // Where on the desk the numbers of commands and of host words are.
@@ -108,7 +110,7 @@ pub fn set_memory(k: u32, line: &[u8], memory: &mut [u8; 262144])
     }
 }
 
-// Compiles what is on the desk, at a step that says so; else the old answer.
+// Compiles what is on the desk, at a step that says so, for the S1D13A05 or the older S1D13706; else the old answer.
 pub fn compile(
     k: u32,
     old: Compiled,
@@ -119,14 +121,20 @@ pub fn compile(
     ensures { λ r. ⌜ r ≡ compiledAfter k old (now (desk .entry)) (now (words .entry)) (length (now (stream .entry))) ⌝ }
     ensures { λ r. ⌜ now (stream .exit) ≡ streamAfter k (now (desk .entry)) (now (words .entry)) (now (stream .entry)) ⌝ }
 {
-    if k != COMPILE {
-        return old;
-    }
     let bytes = &desk[..];
     let all = &words[..];
     let n = record_code::least(script_code::number_at(bytes, WORDS) as usize, all.len());
     let end = 32 + 32 * (script_code::number_at(bytes, COMMANDS) % 2) as usize;
-    compiler_code::compile_into(&bytes[..32], &bytes[32..end], &all[..n], stream)
+    let screen = &bytes[..32];
+    let list = &bytes[32..end];
+    let taken = &all[..n];
+    if k == COMPILE {
+        return compiler_code::compile_into(screen, list, taken, stream);
+    }
+    if k == OLDER {
+        return older_code::compile_into(screen, list, taken, stream);
+    }
+    old
 }
 
 // The stream's length in bytes; 0 where there is none.

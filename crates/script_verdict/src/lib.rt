@@ -158,7 +158,7 @@ pub fn check_line(
     ensures { λ r. ⌜ r ≡ holds k (now (line .entry)) c p (now (desk .entry)) (now (stream .entry)) (now (memory .entry)) (now (kept .entry)) ⌝ }
 {
     match k {
-        script_steps::COMPILE => is_answer(line, c),
+        script_steps::COMPILE | script_steps::OLDER => is_answer(line, c),
         script_steps::PLAY => is_played(p),
         REG => is_record(line, c, stream),
         RECORDS => has_records(line, c),

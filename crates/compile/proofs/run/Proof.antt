@@ -9,11 +9,11 @@ use Rattle.compile.proofs.run.Tie as tie
 stream-requires : tie.Need-stream-requires
 stream-requires c κs = search needs
 
-slice-aggregate-compile : tie.Need-slice-aggregate-compile
-slice-aggregate-compile c = search needs
+slice-aggregate-compile-for : tie.Need-slice-aggregate-compile-for
+slice-aggregate-compile-for c = search needs
 
-compile-requires : tie.Need-compile-requires
-compile-requires c κs = search needs
+compile-for-requires : tie.Need-compile-for-requires
+compile-for-requires c κs = search needs
 
 array-read-if1 : tie.Need-array-read-if1
 array-read-if1 c = search needs
@@ -37,10 +37,10 @@ array-read-n : tie.Need-array-read-n
 array-read-n c = search needs
 
 array-share-prefix-stream : tie.Need-array-share-prefix-stream
-array-share-prefix-stream c = omega (arith, length-fits _ _ _ _ (c .before .before .compile .ensures .1 .0) (c .if1 .left))
+array-share-prefix-stream c = omega (arith, length-fits _ _ _ _ (c .before .before .compile-for .ensures .1 .0) (c .if1 .left))
 
 slice-aggregate-print-stream : tie.Need-slice-aggregate-print-stream
-slice-aggregate-print-stream c = sym (length-take-le _ _ (omega (arith, length-fits _ _ _ _ (c .before .before .before .compile .ensures .1 .0) (c .before .if1 .left))))
+slice-aggregate-print-stream c = sym (length-take-le _ _ (omega (arith, length-fits _ _ _ _ (c .before .before .before .compile-for .ensures .1 .0) (c .before .if1 .left))))
 
 print-stream-requires : tie.Need-print-stream-requires
 print-stream-requires c κs = search needs
@@ -53,8 +53,8 @@ run-spec =
     tie.close
     (tie.spec
     stream-requires
-    slice-aggregate-compile
-    compile-requires
+    slice-aggregate-compile-for
+    compile-for-requires
     array-read-if1
     array-read-print-refusal
     array-read-print-refusal-2

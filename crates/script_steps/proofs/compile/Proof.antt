@@ -1,21 +1,20 @@
-use lib.ListN.{length, take}
-use Rattle.screen.specs.Screen.{memorySize}
-use Rattle.command.specs.Task.{task}
-use Rattle.compiler.specs.Compile.{compiling, bufferAfter, answerOf}
-use mathlib.Core.Path.{refl, sym}
+use lib.ListN.{length, take, drop}
+use mathlib.Core.Path.{_≡_, refl, sym}
+use mathlib.Core.List.{List}
+use Prim.Native.Nat.{ℕ, _+_, _-_, _*_, _%_}
 use native.Mathlib.Omega.{arith}
 use lib.Seq.{length-take-le}
 use borrow.Author.Tests.{eq-eqb, ne-eqb}
+use Rattle.screen.specs.Screen.{memorySize}
+use Rattle.command.specs.Task.{task}
+use Rattle.compiler.specs.Compile.{compiling, bufferAfter, answerOf}
+use Rattle.older.specs.Compile.{olderCompiling, olderBuffer}
 use Rattle.record.proofs.Choice.{yes, no}
-use Rattle.script.specs.Steps.{compiledAfter, streamAfter}
+use Rattle.script.specs.Steps.{listOn, wordsOn, compiledAfter, streamAfter}
 use Rattle.script.proofs.Desk.{taken, length-taken, list-on, at-parts}
 use borrow.Author.Needs.{needs}
 use Rattle.script_steps.proofs.compile.Statement.{statement}
 use Rattle.script_steps.proofs.compile.Tie as tie
-
-returns : tie.Need-returns
-unfolding compiledAfter streamAfter
-returns c = (no _ (ne-eqb _ _ (c .if1 .taken)) refl, no _ (ne-eqb _ _ (c .if1 .taken)) refl)
 
 number-at-requires : tie.Need-number-at-requires
 number-at-requires c κs = search needs
@@ -38,40 +37,65 @@ mul-end c = search needs
 add-end : tie.Need-add-end
 add-end c = search needs
 
-slice-aggregate-compile-into : tie.Need-slice-aggregate-compile-into
-slice-aggregate-compile-into c = let d = c .before .before .before .before .before .before .before .args .desk .now in sym (length-take-le 32 d (omega arith))
+slice-aggregate-screen : tie.Need-slice-aggregate-screen
+slice-aggregate-screen c = let d = c .before .before .before .before .before .before .args .desk .now in sym (length-take-le 32 d (omega arith))
 
-sub-compile-into : tie.Need-sub-compile-into
-sub-compile-into c = search needs
+sub-list : tie.Need-sub-list
+sub-list c = search needs
 
-part-compile-into-start : tie.Need-part-compile-into-start
-part-compile-into-start c = search needs
+part-list-start : tie.Need-part-list-start
+part-list-start c = search needs
 
-part-compile-into-end : tie.Need-part-compile-into-end
-part-compile-into-end c = search needs
+part-list-end : tie.Need-part-list-end
+part-list-end c = search needs
 
-slice-aggregate-compile-into-2 : tie.Need-slice-aggregate-compile-into-2
-slice-aggregate-compile-into-2 c = length-taken _ _ _ (c .before .before .before .before .least .ensures)
+slice-aggregate-taken : tie.Need-slice-aggregate-taken
+slice-aggregate-taken c = length-taken _ _ _ (c .before .before .before .before .least .ensures)
+
+-- what is told of the lent parts is told of the list and the host words on the desk
+on-desk : {A : Type 0} (c : tie.After-taken) (f : List ℕ → List ℕ → A) {r : A}
+    → r ≡ f (take (32 + 32 * (c .before .before .before .number-at2 .result % 2) - 32) (drop 32 (c .before .before .before .before .before .before .before .before .args .desk .now))) (take (c .before .before .before .before .least .result) (c .before .before .before .before .before .before .before .before .args .words .now))
+    → r ≡ f (listOn (c .before .before .before .before .before .before .before .before .args .desk .now)) (wordsOn (c .before .before .before .before .before .before .before .before .args .desk .now) (c .before .before .before .before .before .before .before .before .args .words .now))
+on-desk c f e =
+    let a = c .before .before .before .before .before .before .before .before .args in
+    at-parts f e (list-on (a .desk .now) _ (c .before .before .before .number-at2 .ensures)) (taken (a .words .now) _ _ _ (c .before .before .before .before .least .ensures) (c .before .before .before .before .before .number-at .ensures))
 
 compile-into-requires : tie.Need-compile-into-requires
 compile-into-requires c κs = search needs
 
+returns : tie.Need-returns
+unfolding compiledAfter streamAfter
+returns c =
+    let a = c .before .before .before .before .before .before .before .before .before .before .before .args in
+    let is = eq-eqb _ _ (c .before .before .if1 .taken) in (
+      yes _ is (on-desk (c .before .before .before) (λ l w. answerOf (compiling memorySize (task (take 32 (a .desk .now)) l w) (length (a .stream .now)))) (c .compile-into .ensures .1 .0)),
+      yes _ is (on-desk (c .before .before .before) (λ l w. bufferAfter memorySize (task (take 32 (a .desk .now)) l w) (a .stream .now)) (c .compile-into .ensures .1 .1)),
+    )
+
+compile-into-requires-2 : tie.Need-compile-into-requires-2
+compile-into-requires-2 c κs = search needs
+
 returns-2 : tie.Need-returns-2
 unfolding compiledAfter streamAfter
 returns-2 c =
-    let a = c .before .before .before .before .before .before .before .before .before .before .before .args in
-    let is = eq-eqb _ _ (c .before .before .before .before .before .before .before .before .before .before .if1 .left) in
-    let list = list-on (a .desk .now) _ (c .before .before .before .before .before .number-at2 .ensures) in
-    let words = taken (a .words .now) _ _ _ (c .before .before .before .before .before .before .least .ensures) (c .before .before .before .before .before .before .before .number-at .ensures) in (
-      yes _ is (at-parts (λ l w. answerOf (compiling memorySize (task (take 32 (a .desk .now)) l w) (length (a .stream .now)))) (c .compile-into .ensures .1 .0) list words),
-      yes _ is (at-parts (λ l w. bufferAfter memorySize (task (take 32 (a .desk .now)) l w) (a .stream .now)) (c .compile-into .ensures .1 .1) list words),
+    let a = c .before .before .before .before .before .before .before .before .before .before .before .before .args in
+    let first = ne-eqb _ _ (c .before .before .before .if1 .left) in
+    let is = eq-eqb _ _ (c .before .before .if2 .taken) in (
+      no _ first (yes _ is (on-desk (c .before .before .before .before) (λ l w. answerOf (olderCompiling (task (take 32 (a .desk .now)) l w) (length (a .stream .now)))) (c .compile-into2 .ensures .1 .0))),
+      no _ first (yes _ is (on-desk (c .before .before .before .before) (λ l w. olderBuffer (task (take 32 (a .desk .now)) l w) (a .stream .now)) (c .compile-into2 .ensures .1 .1))),
     )
+
+returns-3 : tie.Need-returns-3
+unfolding compiledAfter streamAfter
+returns-3 c =
+    let first = ne-eqb _ _ (c .before .if1 .left) in
+    let second = ne-eqb _ _ (c .if2 .left) in
+    (no _ first (no _ second refl), no _ first (no _ second refl))
 
 pub compile-spec : {M : Type 1} → statement M
 compile-spec =
     tie.close
     (tie.spec
-    returns
     number-at-requires
     cast-least
     least-requires
@@ -79,10 +103,13 @@ compile-spec =
     cast-end
     mul-end
     add-end
-    slice-aggregate-compile-into
-    sub-compile-into
-    part-compile-into-start
-    part-compile-into-end
-    slice-aggregate-compile-into-2
+    slice-aggregate-screen
+    sub-list
+    part-list-start
+    part-list-end
+    slice-aggregate-taken
     compile-into-requires
-    returns-2)
+    returns
+    compile-into-requires-2
+    returns-2
+    returns-3)

@@ -1,5 +1,7 @@
+use mathlib.Core.Path.{sym}
 use mathlib.Core.Bool.{_||_}
-use Rattle.record.proofs.Choice.{no}
+use mathlib.Core.Logic.{⊎-elim, inl, inr}
+use Rattle.record.proofs.Choice.{no, or-go}
 use borrow.Author.Tests.{ne-eqb}
 use Rattle.script.specs.Verdict.{holds}
 use borrow.Author.Needs.{needs}
@@ -32,7 +34,7 @@ is-comment-requires c κs = search needs
 
 returns : tie.Need-returns
 unfolding holds
-returns c = rw (c .before .match .keys1) (c .is-answer .ensures)
+returns c = ⊎-elim (λ e. rw e (c .is-answer .ensures)) (λ e. rw e (c .is-answer .ensures)) (c .before .match .keys1)
 
 returns-2 : tie.Need-returns-2
 unfolding holds
@@ -58,7 +60,9 @@ returns-7 : tie.Need-returns-7
 unfolding holds
 returns-7 c =
     let k = c .before .before .match .rest in
-    no _ (ne-eqb _ _ (k .0 .0 .0 .0 .0 .1)) (no _ (ne-eqb _ _ (k .0 .0 .0 .0 .1)) (no _ (ne-eqb _ _ (k .0 .0 .0 .1)) (no _ (ne-eqb _ _ (k .0 .0 .1)) (no _ (ne-eqb _ _ (k .0 .1)) (no _ (ne-eqb _ _ (k .1)) (λ t. c .before .is-setting .ensures t || c .is-comment .ensures t))))))
+    let other = k .0 .0 .0 .0 .0 .1 in
+    let none = or-go (ne-eqb _ _ (λ e. other (inr e))) (sym (ne-eqb _ _ (λ e. other (inl e)))) in
+    no _ (sym none) (no _ (ne-eqb _ _ (k .0 .0 .0 .0 .1)) (no _ (ne-eqb _ _ (k .0 .0 .0 .1)) (no _ (ne-eqb _ _ (k .0 .0 .1)) (no _ (ne-eqb _ _ (k .0 .1)) (no _ (ne-eqb _ _ (k .1)) (λ t. c .before .is-setting .ensures t || c .is-comment .ensures t))))))
 
 pub check-line-spec : {M : Type 1} → statement M
 check-line-spec =
