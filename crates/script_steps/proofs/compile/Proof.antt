@@ -53,12 +53,15 @@ slice-aggregate-taken : tie.Need-slice-aggregate-taken
 slice-aggregate-taken c = length-taken _ _ _ (c .before .before .before .before .least .ensures)
 
 -- what is told of the lent parts is told of the list and the host words on the desk
-on-desk : {A : Type 0} (c : tie.After-taken) (f : List ℕ → List ℕ → A) {r : A}
-    → r ≡ f (take (32 + 32 * (c .before .before .before .number-at2 .result % 2) - 32) (drop 32 (c .before .before .before .before .before .before .before .before .args .desk .now))) (take (c .before .before .before .before .least .result) (c .before .before .before .before .before .before .before .before .args .words .now))
-    → r ≡ f (listOn (c .before .before .before .before .before .before .before .before .args .desk .now)) (wordsOn (c .before .before .before .before .before .before .before .before .args .desk .now) (c .before .before .before .before .before .before .before .before .args .words .now))
-on-desk c f e =
-    let a = c .before .before .before .before .before .before .before .before .args in
-    at-parts f e (list-on (a .desk .now) _ (c .before .before .before .number-at2 .ensures)) (taken (a .words .now) _ _ _ (c .before .before .before .before .least .ensures) (c .before .before .before .before .before .number-at .ensures))
+module _ (c : tie.After-taken) where
+  abbrev desk : List ℕ
+  desk = c .before .before .before .before .before .before .before .before .args .desk .now
+
+  abbrev words : List ℕ
+  words = c .before .before .before .before .before .before .before .before .args .words .now
+
+  on-desk : {A : Type 0} (f : List ℕ → List ℕ → A) {r : A} → r ≡ f (take (32 + 32 * (c .before .before .before .number-at2 .result % 2) - 32) (drop 32 desk)) (take (c .before .before .before .before .least .result) words) → r ≡ f (listOn desk) (wordsOn desk words)
+  on-desk f e = at-parts f e (list-on desk _ (c .before .before .before .number-at2 .ensures)) (taken words _ _ _ (c .before .before .before .before .least .ensures) (c .before .before .before .before .before .number-at .ensures))
 
 compile-into-requires : tie.Need-compile-into-requires
 compile-into-requires c κs = search needs
