@@ -46,6 +46,33 @@ pub extern "C" fn s1d_play(stream: &[u8], memory: &mut [u8]) -> Answer
     answers_code::played_of(answer)
 }
 
+// The colour that panel point (p, q) shows in a memory of so many bytes, for both chips. The point reader, called from here alone, is inlined.
+fn point_in(
+    depth: u32,
+    rotation: u32,
+    flag: u32,
+    width: u32,
+    height: u32,
+    values: &[u32; 6],
+    p: u32,
+    q: u32,
+    memory: &[u8],
+    size: u64,
+) -> S1dPoint
+    ensures { λ r. ⌜ r ≡ pointOf (reading size (displayWith depth rotation flag width height) (valuesWith (now (values .entry))) p q (now (memory .entry))) ⌝ }
+{
+    let d = Display {
+        depth,
+        rotation,
+        flag,
+        width,
+        height,
+    };
+    let v = screen_values::values_given(*values);
+    let answer = reader_code::read_point_in(size, d, v, p, q, memory);
+    answers_code::point_of(answer)
+}
+
 // The colour that panel point (p, q) shows.
 #[no_mangle]
 pub extern "C" fn s1d_read_point(
@@ -61,16 +88,18 @@ pub extern "C" fn s1d_read_point(
 ) -> S1dPoint
     ensures { λ r. ⌜ r ≡ pointOf (reading memorySize (displayWith depth rotation flag width height) (valuesWith (now (values .entry))) p q (now (memory .entry))) ⌝ }
 {
-    let d = Display {
+    point_in(
         depth,
         rotation,
         flag,
         width,
         height,
-    };
-    let v = screen_values::values_given(*values);
-    let answer = reader_code::read_point(d, v, p, q, memory);
-    answers_code::point_of(answer)
+        values,
+        p,
+        q,
+        memory,
+        262144,
+    )
 }
 
 // Compiles, then plays the stream.
@@ -159,14 +188,16 @@ pub extern "C" fn s1d06_read_point(
 ) -> S1dPoint
     ensures { λ r. ⌜ r ≡ pointOf (reading olderMemory (displayWith depth rotation flag width height) (valuesWith (now (values .entry))) p q (now (memory .entry))) ⌝ }
 {
-    let d = Display {
+    point_in(
         depth,
         rotation,
         flag,
         width,
         height,
-    };
-    let v = screen_values::values_given(*values);
-    let older = older_code::read_point(d, v, p, q, memory);
-    answers_code::point_of(older)
+        values,
+        p,
+        q,
+        memory,
+        81920,
+    )
 }
