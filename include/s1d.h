@@ -158,7 +158,9 @@ typedef struct s1d_values {
 
 typedef struct s1d_point {
     uint32_t number;
-    uint32_t colour; /* the pixel as a number of depth bits */
+    uint32_t colour;  /* the pixel as a number of depth bits */
+    uint32_t address; /* the byte that it stands in; at depth 16 its low byte */
+    uint32_t bit;     /* the place of its highest bit there: 7 down to 0 below depth 8, else 7 */
 } s1d_point;
 
 typedef struct s1d_drawn {
@@ -204,8 +206,9 @@ s1d_played s1d_feed(s1d_player *player,
  * half read); 23 (a data word is due; place is the number of records). */
 s1d_played s1d_end(s1d_player *player);
 
-/* The colour at panel point (p, q), of a panel of width by height, for the settings that s1d_compile
- * gave and the six values that s1d_play or s1d_end gave. Changes nothing.
+/* What panel point (p, q) shows, of a panel of width by height, for the settings that s1d_compile gave
+ * and the six values that s1d_play or s1d_end gave: the pixel's colour, and where in memory it stands.
+ * Changes nothing.
  * Refusals, in the order of checking: 18, 1 (flag above 1), 2, 3, 4, 5, 21 (one of values outside its
  * field), 24, 25. */
 s1d_point s1d_read_point(uint32_t depth, uint32_t rotation, uint32_t flag,

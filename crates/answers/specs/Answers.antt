@@ -32,9 +32,9 @@ compiledOf c list =
 abbrev pub displayWith : ℕ → ℕ → ℕ → ℕ → ℕ → Display
 displayWith depth rotation flag width height = record { depth = depth; rotation = rotation; flag = flag; width = width; height = height }
 
--- the reader's number and colour
+-- the reader's number and colour, and where it looked
 unfoldable pub pointOf : Reading → S1dPoint
-pointOf r = record { number = r .number; colour = r .colour }
+pointOf r = record { number = r .number; colour = r .colour; address = r .address; bit = r .bit }
 
 -- drawing's number, place, length and six values
 unfoldable pub drawnOf : Drawing → S1dDrawn

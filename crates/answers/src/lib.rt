@@ -13,11 +13,13 @@ pub struct S1dCompiled {
     pub part_length: u64,
 }
 
-// What the point reader gives back.
+// What the point reader gives back: the pixel's colour, its byte's address, and the place of its highest bit in that byte.
 #[repr(C)]
 pub struct S1dPoint {
     pub number: u32,
     pub colour: u32,
+    pub address: u32,
+    pub bit: u32,
 }
 
 // What drawing gives back: compiling's length and playing's values.

@@ -1,10 +1,10 @@
 // Pixels in memory, and raster codes.
 ghost use mathlib.Core.Path.{_≡_};
 ghost use mathlib.Core.Bool.{true};
-ghost use Prim.Native.Nat.{_+_, _-_, _*_, _^_, _≤_, _<_};
+ghost use Prim.Native.Nat.{_+_, _-_, _*_, _/_, _^_, _≤_, _<_, min, max};
 ghost use lib.ListN.{length};
 ghost use Rattle.pixel.specs.Depth.{isDepth, perDword};
-ghost use Rattle.pixel.specs.Pixel.{getPixel, putPixel, dwordPixel};
+ghost use Rattle.pixel.specs.Pixel.{getPixel, putPixel, pixelByte, pixelBit, storedPixel};
 ghost use Rattle.pixel.specs.Raster.{bit, raster};
 ghost use Rattle.pixel.specs.Masking.{masksOf, chosen, masked};
 use pixel::Masks;
@@ -53,17 +53,31 @@ pub fn put_pixel(s: &mut [u8], bytes: usize, at: usize, v: u16)
     }
 }
 
-// Pixel i of a dword of the memory, at any depth.
-pub fn dword_pixel(depth: u32, memory: &[u8], dword: usize, i: u32) -> u16
-    requires { ⌜ (isDepth depth ≡ true) × (i < perDword depth) × (4 * dword + 4 ≤ length (now memory)) ⌝ }
-    ensures { λ r. ⌜ r ≡ dwordPixel depth (now (memory .entry)) dword i ⌝ }
+// The address of pixel i of a dword: of its byte, at depth 16 of its low byte.
+pub fn pixel_byte(depth: u32, dword: u64, i: u32) -> u64
+    requires { ⌜ (isDepth depth ≡ true) × (i < perDword depth) × (4 * dword + 4 < 2 ^ 64) ⌝ }
+    ensures { λ r. ⌜ r ≡ pixelByte depth dword i ⌝ }
 {
-    let bit = i * depth;
-    let at = 4 * dword + (bit / 8) as usize;
+    4 * dword + (i * depth / 8) as u64
+}
+
+// The place of its highest bit in that byte, at any depth.
+pub fn pixel_bit(depth: u32, i: u32) -> u32
+    requires { ⌜ (isDepth depth ≡ true) × (i < perDword depth) ⌝ }
+    ensures { λ r. ⌜ r ≡ pixelBit depth i ⌝ }
+{
+    7 - i * depth % 8
+}
+
+// The pixel whose highest bit is the named bit of the byte at `at`, at any depth.
+pub fn stored_pixel(depth: u32, memory: &[u8], at: usize, bit: u32) -> u16
+    requires { ⌜ (isDepth depth ≡ true) × (at + max 1 (depth / 8) ≤ length (now memory)) × (bit ≤ 7) × (min depth 8 ≤ bit + 1) ⌝ }
+    ensures { λ r. ⌜ r ≡ storedPixel depth (now (memory .entry)) at bit ⌝ }
+{
     if depth == 16 {
-        return wide(memory[at]) + 256 * wide(memory[at + 1]);
+        return get_pixel(memory, 2, at);
     }
-    let right = 8 - (depth + bit % 8);
+    let right = bit + 1 - depth;
     (wide(memory[at]) >> right) % (1u16 << depth)
 }
 

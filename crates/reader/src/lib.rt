@@ -1,4 +1,4 @@
-// The point reader: what a panel point shows.
+// The point reader: what a panel point shows, and where that stands in memory.
 
 // What the panel is set to: depth, rotation, window flag, and its size.
 pub struct Display {
@@ -9,7 +9,8 @@ pub struct Display {
     pub height: u32,
 }
 
+// The pixel's colour, its byte's address, and the place of its highest bit in that byte; or a refusal number.
 pub enum PointAnswer {
-    Colour(u16),
+    Shown(u16, u64, u32),
     Refused(u32),
 }

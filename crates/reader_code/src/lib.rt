@@ -1,4 +1,4 @@
-// The point reader: what a panel point shows.
+// The point reader: what a panel point shows, and where that stands in memory.
 ghost use mathlib.Core.Path.{_≡_};
 ghost use mathlib.Core.Bool.{true};
 ghost use lib.ListN.{length, take};
@@ -58,7 +58,8 @@ fn first_fault(size: u64, d: Display, values: ScreenValues, p: u32, q: u32, memo
     record_code::first_of(&GIVEN_CHECKS, &fails)
 }
 
-// The colour that panel point (p, q) shows in a memory of so many bytes, or the first refusal number.
+// What panel point (p, q) shows in a memory of so many bytes, its colour read where the answer says that it stands; or the first refusal
+// number.
 pub fn read_point_in(
     size: u64,
     d: Display,
@@ -79,7 +80,11 @@ pub fn read_point_in(
     if !((w.down <= w.up) & (dword < size / 4)) {
         return PointAnswer::Refused(25);
     }
-    PointAnswer::Colour(pixel_code::dword_pixel(d.depth, memory, dword as usize, w.pixel as u32))
+    let i = w.pixel as u32;
+    let address = pixel_code::pixel_byte(d.depth, dword, i);
+    let bit = pixel_code::pixel_bit(d.depth, i);
+    let colour = pixel_code::stored_pixel(d.depth, memory, address as usize, bit);
+    PointAnswer::Shown(colour, address, bit)
 }
 
 // The same in the S1D13A05's memory.

@@ -5,7 +5,7 @@ use Rattle.io.specs.Digits.{digits}
 use Rattle.record.specs.Bytes.{byteAt, u16At}
 use Rattle.record.specs.Record.{recordAt}
 use Rattle.record.specs.declared.Record.{Record}
-use Rattle.text.specs.Text.{letters}
+use Rattle.text.specs.Text.{letters, decimal}
 
 -- f 0, f 1 and so on, n of them, one behind the other
 unfoldable pub joined : (ℕ → List ℕ) → ℕ → List ℕ
@@ -19,6 +19,11 @@ recordLine r = digits 16 8 (r .number) ++ letters " " ++ digits 16 8 (r .value) 
 -- the line of record i of a stream
 unfoldable pub streamLine : List ℕ → ℕ → List ℕ
 streamLine stream i = recordLine (recordAt stream i)
+
+-- the line of a panel point (02, e): its pixel's colour, its byte's address, and the place of its highest bit in that byte
+unfoldable pub pointLine : ℕ → ℕ → ℕ → List ℕ
+pointLine colour address bit =
+    letters "colour " ++ decimal colour ++ letters " address " ++ decimal address ++ letters " bit " ++ decimal bit ++ letters "\n"
 
 -- byte i: two hexadecimal digits and a space
 unfoldable pub hexByte : List ℕ → ℕ → List ℕ

@@ -14,14 +14,15 @@ use Rattle.screen.specs.declared.Screen.{Screen}
 use Rattle.screen.specs.declared.ScreenValues.{ScreenValues}
 use Rattle.view.specs.Walk.{placeOf}
 use Rattle.view.specs.Shows.{Shows, shownBit}
-use Rattle.reader.specs.Read.{lookedAt, readRows, reading}
+use Rattle.reader.specs.Read.{displayOf, lookedAt, readRows, reading}
 use Rattle.reader.specs.declared.Display.{Display}
 use Rattle.command.specs.Task.{Task, screenIn}
 use Rattle.compiler.specs.Compile.{Compiling, compiling, bufferAfter}
 use Rattle.chip.specs.Play.{playing, played}
 use Rattle.older.specs.Bytes.{olderMemory, olderRegisters, olderValues}
 use Rattle.older.specs.Compile.{registersIn, bytesIn, olderRows, olderCompiling, olderBuffer}
-use Rattle.unit.specs.Sheet.{sheetAfter, sheetShows}
+use Rattle.unit.specs.Sheet.{sheetAfter}
+use Rattle.unit.specs.Point.{sheetPoint, LooksTruly}
 use Rattle.unit.specs.Tables.{compileRows, playRows}
 
 -- Demand 1 of an answer's number and place, and a table: "accepted exactly when document 01's limits hold, else refused with the
@@ -53,6 +54,15 @@ Demand2 =
     (placeOf (fieldsOf bytes .depth) (fieldsOf bytes .rotation) (fieldsOf bytes .flag) (valuesOf (fieldsOf bytes)) p q)
     (shownBit (fieldsOf bytes) p q)
 
+-- Beside demand 2 (02, e): "The point reader should say where it looked". From the same values, over any memory of 262,144 bytes, the
+-- reading tells the truth about memory
+abbrev pub Demand2Read : Type 0
+Demand2Read =
+    (bytes memory : List ℕ) (p q : ℕ) → firstOf (screenRows memorySize bytes) ≡ 0 → AllBelow 256 memory → length memory ≡ memorySize
+    → p < fieldsOf bytes .width → q < fieldsOf bytes .height
+    → LooksTruly memorySize (fieldsOf bytes) memory p q
+    (reading memorySize (displayOf (fieldsOf bytes)) (valuesOf (fieldsOf bytes)) p q memory)
+
 -- the stream in the length that compiling gave
 abbrev pub streamGiven : Task → List ℕ → List ℕ
 streamGiven t buffer = take (compiling memorySize t (length buffer) .length) (bufferAfter memorySize t buffer)
@@ -66,14 +76,14 @@ displayGiven t buffer = displayBy (compiling memorySize t (length buffer)) (scre
 
 -- what demand 3 claims of a screen record, a list and host words, a stream buffer and a memory: playing the stream is not refused;
 -- the memory is then the sheet's; and at every panel point the reader, given playing's six values and the memory it left,
--- gives the colour that the sheet shows
+-- gives the colour that the sheet shows, with the byte and bit where it stands
 pub record DrawnTruly (t : Task) (buffer memory : List ℕ) : Type 0 where
   pub not-refused : playing memorySize (streamGiven t buffer) memory .number ≡ 0
   pub same-bytes : played memorySize (streamGiven t buffer) memory ≡ sheetAfter memorySize t memory
-  pub same-colours : (p q : ℕ) → p < screenIn t .width → q < screenIn t .height
+  pub same-points : (p q : ℕ) → p < screenIn t .width → q < screenIn t .height
       → reading memorySize (displayGiven t buffer) (playing memorySize (streamGiven t buffer) memory .values) p q
       (played memorySize (streamGiven t buffer) memory)
-      ≡ record { number = 0; place = 0; colour = sheetShows (screenIn t) (sheetAfter memorySize t memory) p q }
+      ≡ sheetPoint (screenIn t) (sheetAfter memorySize t memory) p q
 
 -- a task of bytes and 16-bit host words
 pub record InBytes (t : Task) : Type 0 where
@@ -108,17 +118,16 @@ abbrev pub olderDisplay : Task → List ℕ → Display
 olderDisplay t buffer = displayBy (olderCompiling t (length buffer)) (screenIn t)
 
 -- what demand 2 claims of it, from a screen record and a stream buffer on: the eighteen registers are written; the values are 01's six of
--- the screen; from them the chip's walk comes at each panel point to the pixel that the rotation names; and the point reader gives that
--- pixel's colour in any memory of 81,920 bytes
+-- the screen; from them the chip's walk comes at each panel point to the pixel that the rotation names; and the point reader tells the
+-- truth about it in any memory of 81,920 bytes
 pub record SetTruly (t : Task) (buffer : List ℕ) : Type 0 where
   pub registers : registersIn (writesGiven t buffer) ≡ olderRegisters
   pub values : valuesGiven t buffer ≡ valuesOf (screenIn t)
   pub shows : (p q : ℕ) → p < screenIn t .width → q < screenIn t .height
       → Shows olderMemory (screenIn t .depth) (lookedAt (olderDisplay t buffer) (valuesGiven t buffer) p q) (shownBit (screenIn t) p q)
-  pub colours : (memory : List ℕ) → AllBelow 256 memory → length memory ≡ olderMemory
+  pub reads : (memory : List ℕ) → AllBelow 256 memory → length memory ≡ olderMemory
       → (p q : ℕ) → p < screenIn t .width → q < screenIn t .height
-      → reading olderMemory (olderDisplay t buffer) (valuesGiven t buffer) p q memory
-      ≡ record { number = 0; place = 0; colour = sheetShows (screenIn t) memory p q }
+      → LooksTruly olderMemory (screenIn t) memory p q (reading olderMemory (olderDisplay t buffer) (valuesGiven t buffer) p q memory)
 
 -- Demand 2 for it: of every screen record that compiles
 abbrev pub OlderDemand2 : Type 0

@@ -11,8 +11,9 @@ use Rattle.screen.specs.declared.ScreenValues.{ScreenValues}
 use Rattle.command.specs.Task.{Task, screenIn}
 use Rattle.compiler.specs.Compile.{compiling, bufferAfter}
 use Rattle.chip.specs.Play.{noValues}
-use Rattle.reader.specs.Read.{Reading}
-use Rattle.unit.specs.Sheet.{sheetAfter, sheetShows}
+use Rattle.reader.specs.Read.{Reading, refusedPoint}
+use Rattle.unit.specs.Sheet.{sheetAfter}
+use Rattle.unit.specs.Point.{sheetPoint}
 use Rattle.unit.specs.declared.Drawn.{Drawn}
 use Rattle.unit.specs.declared.Drawn.the-variants.{Accepted, Refused}
 
@@ -64,8 +65,8 @@ showRows m bytes p q memory =
     row 18 (not (eqb (length memory) m))
     ∷ (screenRows m bytes ++ (row 24 (not (ltb p (fieldsOf bytes .width) && ltb q (fieldsOf bytes .height))) ∷ []))
 
--- the colour at a panel point is what the sheet shows
+-- at a panel point: what the sheet shows, and where it stands
 unfoldable pub showing : ℕ → List ℕ → ℕ → ℕ → List ℕ → Reading
 showing m bytes p q memory =
     let n = firstOf (showRows m bytes p q memory) in
-    record { number = n; place = 0; colour = cond (eqb n 0) (sheetShows (fieldsOf bytes) memory p q) 0 }
+    cond (eqb n 0) (sheetPoint (fieldsOf bytes) memory p q) (refusedPoint n)

@@ -1,4 +1,5 @@
 pub mod Sheet
+pub mod Point
 pub mod Cases
 pub mod Tables
 pub mod Draw

@@ -3,15 +3,14 @@ use Prim.Native.Nat.{ℕ, _+_, _-_, _*_, _/_, _%_, _^_}
 use mathlib.Core.List.{List, [], _∷_}
 use mathlib.Core.Bool.{Bool, _&&_, cond}
 use lib.ListN.{length, getD, take, drop}
-use lib.Dec.{leb, eqb}
+use lib.Dec.{leb, ltb, eqb}
 use Rattle.record.specs.Bytes.{byteAt}
 use Rattle.record.specs.Lists.{tabulate}
 use Rattle.pixel.specs.Pixel.{byteOf}
 use Rattle.pixel.specs.Raster.{raster}
-use Rattle.screen.specs.Screen.{mainImage, windowImage}
 use Rattle.screen.specs.declared.Image.{Image}
 use Rattle.screen.specs.declared.Screen.{Screen}
-use Rattle.view.specs.View.{Pixel, pixelAt, viewPixel, among, inWindow, windowPixel}
+use Rattle.view.specs.View.{Pixel, pixelAt, among, ofShown}
 use Rattle.command.specs.Command.{commandOf, byOperation, surfaceOf, lineWords, wordsTaken}
 use Rattle.command.specs.Task.{Task, screenIn, commandsIn, isAccepted}
 use Rattle.command.specs.declared.Command.{Command}
@@ -20,10 +19,18 @@ use Rattle.command.specs.declared.Command.{Command}
 abbrev pub fromLeft : ℕ → ℕ → ℕ → ℕ
 fromLeft depth byte n = byte / 2 ^ (8 - (n + 1) * depth) % 2 ^ depth
 
+-- the address of an image's pixel; below depth 8 it is cut off
+abbrev pub sheetAddress : ℕ → Image → Pixel → ℕ
+sheetAddress depth i x = i .base + x .v * i .line + x .u * depth / 8
+
+-- the place of its highest bit in that byte (02, e): below depth 8, after the byte's pixels to its left; at depth 8 and 16 it is 7
+unfoldable pub sheetBit : ℕ → Pixel → ℕ
+sheetBit depth x = cond (ltb depth 8) (7 - x .u % (8 / depth) * depth) 7
+
 -- an image's pixel: at depth 8 the byte at its address; at 16 that plus 256 times the next; below 8 the address is cut off
 unfoldable pub sheetPixel : ℕ → Image → List ℕ → Pixel → ℕ
 sheetPixel depth i sheet x =
-    let a = i .base + x .v * i .line + x .u * depth / 8 in
+    let a = sheetAddress depth i x in
     cond (eqb depth 16) (byteAt sheet a + 256 * byteAt sheet (a + 1))
     (cond (eqb depth 8) (byteAt sheet a)
     (fromLeft depth (byteAt sheet a) (x .u % (8 / depth))))
@@ -99,8 +106,11 @@ sheetAfter m t old = cond (isAccepted m t) (sheetCommands (screenIn t) (commands
 
 -- what the sheet shows at panel point (p, q)
 unfoldable pub sheetShows : Screen → List ℕ → ℕ → ℕ → ℕ
-sheetShows s sheet p q =
-    let x = viewPixel (s .rotation) (s .width) (s .height) p q in
-    cond (inWindow s x)
-    (sheetPixel (s .depth) (windowImage s) sheet (windowPixel s x))
-    (sheetPixel (s .depth) (mainImage s) sheet x)
+sheetShows s sheet p q = ofShown (λ i x. sheetPixel (s .depth) i sheet x) s p q
+
+-- the byte that the pixel shown there stands in, and the place of its highest bit in it (02, e)
+unfoldable pub shownAddress : Screen → ℕ → ℕ → ℕ
+shownAddress s p q = ofShown (sheetAddress (s .depth)) s p q
+
+unfoldable pub shownPlace : Screen → ℕ → ℕ → ℕ
+shownPlace s p q = ofShown (λ i x. sheetBit (s .depth) x) s p q

@@ -1,21 +1,14 @@
 -- Demand 2: "each panel point shows the one image pixel that the rotation names, inside memory, the small window over the main".
 use Prim.Native.Nat.{ℕ, _+_, _-_, _*_, _/_, _%_, _≤_, _<_}
 use mathlib.Core.Path.{_≡_}
-use mathlib.Core.Bool.{cond}
 use Rattle.pixel.specs.Depth.{perDword}
-use Rattle.screen.specs.Screen.{mainImage, windowImage}
 use Rattle.screen.specs.declared.Screen.{Screen}
-use Rattle.view.specs.View.{viewPixel, inWindow, windowPixel, bitAddress}
+use Rattle.view.specs.View.{ofShown, bitAddress}
 use Rattle.view.specs.declared.Place.{Place}
 
--- the bits of memory before the image pixel that belongs at panel point (p, q): the window's where the view pixel lies in
--- the window, else the main image's
+-- the bits of memory before the image pixel that belongs at panel point (p, q)
 unfoldable pub shownBit : Screen → ℕ → ℕ → ℕ
-shownBit s p q =
-    let x = viewPixel (s .rotation) (s .width) (s .height) p q in
-    cond (inWindow s x)
-    (bitAddress (s .depth) (windowImage s) (windowPixel s x))
-    (bitAddress (s .depth) (mainImage s) x)
+shownBit s p q = ofShown (bitAddress (s .depth)) s p q
 
 -- the walk came to the pixel that has so many bits of memory before it, in a memory of m bytes
 pub record Shows (m depth : ℕ) (w : Place) (bit : ℕ) : Type 0 where

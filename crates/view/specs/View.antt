@@ -1,9 +1,9 @@
 -- The view and the panel (01, "Screen arithmetic": which view pixel belongs at panel point (p, q)).
 use Prim.Native.Nat.{ℕ, _+_, _-_, _*_}
-use mathlib.Core.Bool.{Bool, _&&_}
+use mathlib.Core.Bool.{Bool, _&&_, cond}
 use lib.Dec.{leb, ltb}
 use Rattle.screen.specs.Image.{byRotation}
-use Rattle.screen.specs.Screen.{windowed}
+use Rattle.screen.specs.Screen.{windowed, mainImage, windowImage}
 use Rattle.screen.specs.declared.Image.{Image}
 use Rattle.screen.specs.declared.Screen.{Screen}
 
@@ -35,6 +35,13 @@ inWindow s x = windowed s && (among (s .window .x) (s .window .width) (x .u) && 
 -- the window's pixel at a view pixel: (u − x, v − y)
 unfoldable pub windowPixel : Screen → Pixel → Pixel
 windowPixel s x = pixelAt (x .u - s .window .x) (x .v - s .window .y)
+
+-- what f says of the image pixel that belongs at panel point (p, q): of the window's where the view pixel lies in the window, else of
+-- the main image's
+abbrev pub ofShown : {A : Type 0} → (Image → Pixel → A) → Screen → ℕ → ℕ → A
+ofShown f s p q =
+    let x = viewPixel (s .rotation) (s .width) (s .height) p q in
+    cond (inWindow s x) (f (windowImage s) (windowPixel s x)) (f (mainImage s) x)
 
 -- the bits of memory before an image's pixel
 unfoldable pub bitAddress : ℕ → Image → Pixel → ℕ

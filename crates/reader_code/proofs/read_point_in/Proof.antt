@@ -10,6 +10,7 @@ use borrow.Author.Tests.{ltb-true, not-false}
 use Rattle.record.specs.Checks.{firstOf}
 use Rattle.record.proofs.Choice.{and-right}
 use Rattle.pixel.specs.Depth.{perDword}
+use Rattle.pixel.proofs.Stands.{bit-room, byte-room}
 use Rattle.reader.specs.Read.{readRows}
 use Rattle.reader.proofs.Answer.{Given, answered, given-refused, given, low-pixel, outside, inside}
 use Rattle.reader_code.proofs.read_point_in.Statement.{statement}
@@ -48,22 +49,41 @@ returns-2 c =
     let w = c .before .before .before in
     answered _ _ _ _ _ _ _ (outside _ _ _ _ _ _ (none-fails (w .before)) _ (w .place-of .ensures) (rw (c .before .before .minus .ensures) at (c .if2 .taken)))
 
-cast-dword-pixel : tie.Need-cast-dword-pixel
-cast-dword-pixel c =
+cast-i : tie.Need-cast-i
+cast-i c =
     let w = c .before .before .before .before in
     omega (arith, low w, div-le-self 32 (w .before .before .before .before .args .d .depth))
 
-dword-pixel-requires : tie.Need-dword-pixel-requires
-dword-pixel-requires c κs =
+pixel-byte-requires : tie.Need-pixel-byte-requires
+pixel-byte-requires c κs =
     let w = c .before .before .before .before in
-    (known (w .before) .depth, low w, omega (arith, known (w .before) .sized, below (c .before)))
+    (known (w .before) .depth, low w, omega (arith, below (c .before), w .before .before .before .before .fits .size))
+
+pixel-bit-requires : tie.Need-pixel-bit-requires
+pixel-bit-requires c κs =
+    let w = c .before .before .before .before .before in
+    (known (w .before) .depth, low w)
+
+stored-pixel-requires : tie.Need-stored-pixel-requires
+stored-pixel-requires c κs =
+    let w = c .before .before .before .before .before .before in
+    let depth = w .before .before .before .before .args .d .depth in
+    let deep = known (w .before) .depth in
+    let room = bit-room depth (w .place-of .result .pixel) deep in
+    let bytes = byte-room depth (c .before .before .before .before .before .minus .result) (w .place-of .result .pixel) deep (low w) in (
+      deep,
+      omega (arith, bytes, c .before .pixel-byte .ensures, below (c .before .before .before), known (w .before) .sized),
+      omega (arith, room .0, c .pixel-bit .ensures),
+      omega (arith, room .1, c .pixel-bit .ensures),
+    )
 
 returns-3 : tie.Need-returns-3
 returns-3 c =
-    let w = c .before .before .before .before .before in
-    let dword = c .before .before .before .before .minus .ensures in
+    let w = c .before .before .before .before .before .before .before in
+    let dword = c .before .before .before .before .before .before .minus .ensures in
     answered _ _ _ _ _ _ _
-    (inside _ _ _ _ _ _ (none-fails (w .before)) _ (w .place-of .ensures) (rw dword at (c .before .before .if2 .left)) _ (rw dword at (c .dword-pixel .ensures)))
+    (inside _ _ _ _ _ _ (none-fails (w .before)) _ (w .place-of .ensures) (rw dword at (c .before .before .before .before .if2 .left)) _ _ _
+    (rw dword at (c .before .before .pixel-byte .ensures)) (c .before .pixel-bit .ensures) (c .stored-pixel .ensures))
 
 pub read-point-in-spec : {M : Type 1} → statement M
 read-point-in-spec =
@@ -74,6 +94,8 @@ read-point-in-spec =
     place-of-requires
     minus-requires
     returns-2
-    cast-dword-pixel
-    dword-pixel-requires
+    cast-i
+    pixel-byte-requires
+    pixel-bit-requires
+    stored-pixel-requires
     returns-3)
