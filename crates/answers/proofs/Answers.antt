@@ -23,7 +23,6 @@ use Rattle.unit.specs.declared.Drawn.{Drawn}
 use Rattle.unit.specs.declared.Drawn.the-variants as Drawn
 use Rattle.serial.specs.Serial.{answerOf}
 use Rattle.answers.specs.declared.S1dCompiled.{S1dCompiled}
-use Rattle.answers.specs.declared.S1dPoint.{S1dPoint}
 use Rattle.answers.specs.Answers.{compiledOf, displayWith, pointOf, drawnOf, valuesIn}
 
 -- ---- compiling
@@ -89,9 +88,9 @@ module _ (a : PointAnswer) where
   point-narrow k at place e f = subst (λ (x : PointAnswer). readingOf x .address < 2 ^ 32) e f
 
 -- an answer read from values that are w
-pub point-with : (r : S1dPoint) (a : PointAnswer) (m : ℕ) (d : Display) (v w : ScreenValues) (p q : ℕ) (memory : List ℕ)
-    → r ≡ pointOf (readingOf a) → readingOf a ≡ reading m d v p q memory → v ≡ w → r ≡ pointOf (reading m d w p q memory)
-point-with r a m d v w p q memory e f h = e ∙ ap pointOf (f ∙ ap (λ (x : ScreenValues). reading m d x p q memory) h)
+pub reading-with : (a : PointAnswer) (m : ℕ) (d : Display) (v w : ScreenValues) (p q : ℕ) (memory : List ℕ)
+    → readingOf a ≡ reading m d v p q memory → v ≡ w → readingOf a ≡ reading m d w p q memory
+reading-with a m d v w p q memory f h = f ∙ ap (λ (x : ScreenValues). reading m d x p q memory) h
 
 -- ---- drawing
 module _ (a : Drawn) where

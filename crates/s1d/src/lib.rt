@@ -1,13 +1,12 @@
 // The C library: the functions of include/s1d.h.
 ghost use mathlib.Core.Path.{_≡_};
-ghost use Prim.Native.Nat.{_^_, _<_};
 ghost use lib.ListN.{length};
 ghost use Rattle.screen.specs.Screen.{memorySize};
 ghost use Rattle.command.specs.Task.{task};
 ghost use Rattle.screen.specs.Values.{valuesWith};
 ghost use Rattle.compiler.specs.Compile.{compiling, bufferAfter};
 ghost use Rattle.chip.specs.Play.{playing, played};
-ghost use Rattle.reader.specs.Read.{reading};
+ghost use Rattle.reader.specs.Read.{reading, readingOf};
 ghost use Rattle.unit.specs.Draw.{drawing, streamDrawn, memoryDrawn};
 ghost use Rattle.serial.specs.State.{newPlayer};
 ghost use Rattle.serial.specs.Serial.{feeding, endedPlayer, endAnswer, answerOf};
@@ -19,6 +18,7 @@ use answers::S1dDrawn;
 use answers::S1dPoint;
 use answers::S1dValues;
 use reader::Display;
+use reader::PointAnswer;
 use serial::Answer;
 use serial::Player;
 
@@ -47,7 +47,8 @@ pub extern "C" fn s1d_play(stream: &[u8], memory: &mut [u8]) -> Answer
     answers_code::played_of(answer)
 }
 
-// What panel point (p, q) shows in a memory of so many bytes, for both chips. The point reader, called from here alone, is inlined.
+// What panel point (p, q) shows in a memory of so many bytes, for both chips. The point reader, called from here alone, is inlined; the
+// answer becomes a struct of C where it is given back, field by field.
 fn point_in(
     depth: u32,
     rotation: u32,
@@ -59,9 +60,8 @@ fn point_in(
     q: u32,
     memory: &[u8],
     size: u64,
-) -> S1dPoint
-    requires { ⌜ size < 2 ^ 32 ⌝ }
-    ensures { λ r. ⌜ r ≡ pointOf (reading size (displayWith depth rotation flag width height) (valuesWith (now (values .entry))) p q (now (memory .entry))) ⌝ }
+) -> PointAnswer
+    ensures { λ r. ⌜ readingOf r ≡ reading size (displayWith depth rotation flag width height) (valuesWith (now (values .entry))) p q (now (memory .entry)) ⌝ }
 {
     let d = Display {
         depth,
@@ -71,8 +71,7 @@ fn point_in(
         height,
     };
     let v = screen_values::values_given(*values);
-    let answer = reader_code::read_point_in(size, d, v, p, q, memory);
-    answers_code::point_of(answer)
+    reader_code::read_point_in(size, d, v, p, q, memory)
 }
 
 // What panel point (p, q) shows, and where that stands in memory.
@@ -90,7 +89,7 @@ pub extern "C" fn s1d_read_point(
 ) -> S1dPoint
     ensures { λ r. ⌜ r ≡ pointOf (reading memorySize (displayWith depth rotation flag width height) (valuesWith (now (values .entry))) p q (now (memory .entry))) ⌝ }
 {
-    point_in(
+    let answer = point_in(
         depth,
         rotation,
         flag,
@@ -101,7 +100,8 @@ pub extern "C" fn s1d_read_point(
         q,
         memory,
         262144,
-    )
+    );
+    answers_code::point_of(answer)
 }
 
 // Compiles, then plays the stream.
@@ -190,7 +190,7 @@ pub extern "C" fn s1d06_read_point(
 ) -> S1dPoint
     ensures { λ r. ⌜ r ≡ pointOf (reading olderMemory (displayWith depth rotation flag width height) (valuesWith (now (values .entry))) p q (now (memory .entry))) ⌝ }
 {
-    point_in(
+    let older = point_in(
         depth,
         rotation,
         flag,
@@ -201,5 +201,6 @@ pub extern "C" fn s1d06_read_point(
         q,
         memory,
         81920,
-    )
+    );
+    answers_code::point_of(older)
 }
