@@ -58,7 +58,7 @@ fn colour_of(a: PointAnswer) -> u16
     ensures { λ r. ⌜ r ≡ readingOf a .colour ⌝ }
 {
     match a {
-        PointAnswer::Colour(c) => c,
+        PointAnswer::Shown(c, address, bit) => c,
         PointAnswer::Refused(n) => 0,
     }
 }
