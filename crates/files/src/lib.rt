@@ -2,9 +2,10 @@
 // and whether it can be read or written, are the system's: a contract names them, and says what holds of them.
 ghost use mathlib.Core.Path.{_≡_};
 ghost use lib.ListN.{length, replicate};
-ghost use Rattle.files.specs.System.{YesOrNo, LoadedBytes, LoadedWords, LoadedMemory};
+ghost use Rattle.files.specs.System.{YesOrNo, LoadedBytes, LoadedWords, LoadedMemory, GivenNumber};
 use libc::STDERR_FILENO;
 use libc::STDOUT_FILENO;
+use text::Number;
 
 // The most host words that a program takes.
 const MOST_WORDS: usize = 262144;
@@ -160,4 +161,13 @@ pub fn load_memory(i: usize, memory: &mut [u8]) -> Loaded
         return Loaded { ok: true, n };
     }
     load(i, memory)
+}
+
+// The number that argument i gives: none where it is left out or longer than a path.
+pub fn number(i: usize) -> Number
+    ensures { λ r. ⌜ GivenNumber r ⌝ }
+{
+    let mut word = io::buffer();
+    let n = os::arg(i, &mut word);
+    text_lines::number_of(&word[..n])
 }
