@@ -53,6 +53,10 @@ pub struct Values {
 pub struct Point {
     pub number: u32,
     pub colour: u32,
+    /// The byte that the pixel stands in, at depth 16 its low byte.
+    pub address: u32,
+    /// The place of its highest bit there.
+    pub bit: u32,
 }
 
 #[repr(C)]

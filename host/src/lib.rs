@@ -1,5 +1,5 @@
-//! Paper 01 three times over, with the line lengths of paper 02's request c), and the proved library
-//! beside it.
+//! Paper 01 three times over, with the line lengths of paper 02's request c) and the places of its
+//! request e), and the proved library beside it.
 //!
 //! - `reference`: compiling, playing and the point reader, written for speed; what the library is
 //!   compared with and timed against.

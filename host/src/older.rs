@@ -70,7 +70,7 @@ pub fn values(bytes: &[u8; REGISTERS]) -> Values {
     Values { values: [main, main_offset, window, window_offset, x, y] }
 }
 
-/// The colour that a panel point shows.
+/// The colour that a panel point shows, and where it stands.
 pub fn read_point(screen: &Settings, p: u32, q: u32, memory: &[u8]) -> Point {
     read_point_in(MEMORY, screen, p, q, memory)
 }

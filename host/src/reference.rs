@@ -1,6 +1,6 @@
-//! Paper 01 with request c) of paper 02, in plain Rust: compiling, playing, the point reader. Playing
-//! in blocks is in `serial`, the older chip in `older`; the screen and the point are read here for a
-//! memory of any size.
+//! Paper 01 with requests c) and e) of paper 02, in plain Rust: compiling, playing, the point reader.
+//! Playing in blocks is in `serial`, the older chip in `older`; the screen and the point are read here
+//! for a memory of any size.
 //!
 //! `compile`, `play`, `draw` and `read_point` are not inlined, so that timing them beside the library
 //! is fair.
@@ -734,7 +734,7 @@ pub fn draw(
 
 // ---- The point reader ----
 
-/// The colour that a panel point shows.
+/// The colour that a panel point shows, and where it stands.
 #[inline(never)]
 pub fn read_point(screen: &Settings, p: u32, q: u32, memory: &[u8]) -> Point {
     read_point_in(MEMORY, screen, p, q, memory)
@@ -749,14 +749,12 @@ pub(crate) fn read_point_in(
     q: u32,
     memory: &[u8],
 ) -> Point {
-    match colour(size, screen, p, q, memory) {
-        Ok(colour) => Point { number: 0, colour },
-        Err(number) => Point { number, colour: 0 },
-    }
+    found(size, screen, p, q, memory).unwrap_or_else(|number| Point { number, ..Point::default() })
 }
 
+/// The point, or refusal 1 to 5, 18, 21, 24 or 25.
 #[inline(always)]
-fn colour(size: usize, screen: &Settings, p: u32, q: u32, memory: &[u8]) -> Result<u32, u32> {
+fn found(size: usize, screen: &Settings, p: u32, q: u32, memory: &[u8]) -> Result<Point, u32> {
     if memory.len() != size {
         return Err(18);
     }
@@ -764,18 +762,16 @@ fn colour(size: usize, screen: &Settings, p: u32, q: u32, memory: &[u8]) -> Resu
     if !(0..size as i64 / 4).contains(&dword) {
         return Err(25);
     }
-    let dword = 4 * dword as usize;
-    let byte = |i: u32| u32::from(memory[dword + i as usize]);
     let depth = screen.depth;
-    Ok(match depth {
-        16 => byte(2 * pixel) | byte(2 * pixel + 1) << 8,
-        8 => byte(pixel),
-        _ => {
-            let per_byte = 8 / depth;
-            let shift = 8 - depth * (1 + pixel % per_byte);
-            byte(pixel / per_byte) >> shift & ((1 << depth) - 1)
-        }
-    })
+    // Bits of the dword's earlier pixels.
+    let before = depth * pixel;
+    let (address, bit) = (4 * dword as u32 + before / 8, 7 - before % 8);
+    let byte = |at: u32| u32::from(memory[at as usize]);
+    let colour = match depth {
+        16 => byte(address) | byte(address + 1) << 8,
+        _ => byte(address) >> (bit + 1 - depth) & ((1 << depth) - 1),
+    };
+    Ok(Point { number: 0, colour, address, bit })
 }
 
 /// The dword where the chip's walk finds a point, inside the memory or not, and the pixel in it; or

@@ -1,5 +1,5 @@
-//! The plain sheet of paper 01, with the line lengths of paper 02's request c), from the records
-//! themselves. It is fed accepted input only.
+//! The plain sheet of paper 01, with the line lengths of paper 02's request c) and the places of its
+//! request e), from the records themselves. It is fed accepted input only.
 
 fn number(bytes: &[u8], at: usize) -> usize {
     usize::from(bytes[at]) + 256 * usize::from(bytes[at + 1])
@@ -46,6 +46,16 @@ impl Surface {
                 u32::from(bytes[at]) / 2u32.pow((right * depth) as u32) % 2u32.pow(depth as u32)
             }
         }
+    }
+
+    /// The byte that a pixel stands in, at depth 16 its low byte, and the place of its highest bit
+    /// there.
+    fn place(&self, x: usize, y: usize) -> (u32, u32) {
+        let left = match self.depth {
+            8 | 16 => 0,
+            depth => x % (8 / depth),
+        };
+        (self.address(x, y) as u32, 7 - (left * self.depth) as u32)
     }
 
     fn set(&self, bytes: &mut [u8], x: usize, y: usize, pixel: u32) {
@@ -103,8 +113,8 @@ pub fn draw(screen: &[u8], list: &[u8], words: &[u16], sheet: &mut [u8]) {
     }
 }
 
-/// What the sheet shows at panel point (p, q).
-pub fn shows(screen: &[u8], sheet: &[u8], p: usize, q: usize) -> u32 {
+/// The surface that panel point (p, q) shows, and the pixel of it.
+fn shown(screen: &[u8], p: usize, q: usize) -> (Surface, usize, usize) {
     let (panel_width, panel_height) = (number(screen, 4), number(screen, 6));
     let (u, v) = match screen[1] {
         0 => (p, q),
@@ -117,8 +127,21 @@ pub fn shows(screen: &[u8], sheet: &[u8], p: usize, q: usize) -> u32 {
     let in_window =
         screen[2] == 1 && (x..x + window.width).contains(&u) && (y..y + window.height).contains(&v);
     if in_window {
-        window.pixel(sheet, u - x, v - y)
+        (window, u - x, v - y)
     } else {
-        surface(screen, 0).pixel(sheet, u, v)
+        (surface(screen, 0), u, v)
     }
+}
+
+/// What the sheet shows at panel point (p, q).
+pub fn shows(screen: &[u8], sheet: &[u8], p: usize, q: usize) -> u32 {
+    let (on, x, y) = shown(screen, p, q);
+    on.pixel(sheet, x, y)
+}
+
+/// Where the pixel that panel point (p, q) shows stands: its byte, at depth 16 the low one, and the
+/// place of its highest bit there.
+pub fn stands(screen: &[u8], p: usize, q: usize) -> (u32, u32) {
+    let (on, x, y) = shown(screen, p, q);
+    on.place(x, y)
 }

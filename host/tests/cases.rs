@@ -1,4 +1,4 @@
-//! Paper 01's cases S1 to S9 and B1 to B4, cases of paper 02's requests a), c) and d), and 001's
+//! Paper 01's cases S1 to S9 and B1 to B4, cases of paper 02's requests a), c), d) and e), and 001's
 //! examples 1 to 8, on the reference, and on the library where it is linked.
 
 use host::answers::{Compiled, Drawn, Played, Player, Point, Settings};
@@ -39,6 +39,19 @@ impl Screen {
         put(&[0; 4]);
         record
     }
+
+    /// What the point reader is told.
+    fn settings(&self, values: [u32; 6]) -> Settings {
+        let (width, height) = self.panel;
+        Settings {
+            depth: self.depth.into(),
+            rotation: self.rotation.into(),
+            flag: self.window.is_some().into(),
+            width: width.into(),
+            height: height.into(),
+            values,
+        }
+    }
 }
 
 /// A command: operation, surface, code, then x, y, width, height, source x, source y, colour.
@@ -55,6 +68,8 @@ type Record = (u32, u32);
 type Compile = fn(&[u8], &[u8], &[u16], &mut [u8]) -> Compiled;
 type Draw = fn(&[u8], &[u8], &[u16], &mut [u8], &mut [u8]) -> Drawn;
 type Read = fn(&Settings, u32, u32, &[u8]) -> Point;
+
+const READ: [Read; 2] = [reference::read_point, unit::read_point];
 
 /// Compiles by both; the answer and the stream's records.
 fn compile(screen: &Screen, list: &[u8], words: &[u16]) -> (Compiled, Vec<Record>) {
@@ -236,7 +251,7 @@ fn end_at_fault() {
 /// The corners of S1's panel, at each rotation, on lines of so many pixels.
 fn corners_on(length: u16) {
     let values = |screen: &Screen| values(screen).try_into().unwrap();
-    corners_by([reference::read_point, unit::read_point], MEMORY, length, values);
+    corners_by(READ, MEMORY, length, values);
 }
 
 /// The same by two point readers, over a memory of `size` bytes.
@@ -254,14 +269,7 @@ fn corners_by(both: [Read; 2], size: usize, length: u16, values: impl Fn(&Screen
         memory[shown - 1] = 0x02;
         memory[last] = 0x30;
         memory[last + shown - 1] = 0x04;
-        let settings = Settings {
-            depth: 4,
-            rotation: rotation.into(),
-            flag: 0,
-            width: 320,
-            height: 240,
-            values: values(&screen),
-        };
+        let settings = screen.settings(values(&screen));
         for read in both {
             let shown = [(0, 0), (319, 0), (0, 239), (319, 239)]
                 .map(|(p, q)| read(&settings, p, q, &memory).colour);
@@ -506,14 +514,7 @@ fn window_in_the_gap() {
                 let answer = draw(&screen.record(), list, &[], &mut [0; 192], &mut after);
                 assert_eq!(answer.number, 0);
                 assert_eq!(after, drawn);
-                let settings = Settings {
-                    depth: 8,
-                    rotation: rotation.into(),
-                    flag: 1,
-                    width: 64,
-                    height: 48,
-                    values: answer.values,
-                };
+                let settings = screen.settings(answer.values);
                 let mut in_window = 0;
                 for (p, q) in (0..64).flat_map(|p| (0..48).map(move |q| (p, q))) {
                     let (u, v) =
@@ -990,16 +991,17 @@ fn corners_of_older() {
 fn dwords_of_older() {
     let mut memory = vec![0; MEMORY];
     memory[81_916..81_924].copy_from_slice(&[1, 2, 3, 4, 5, 6, 7, 8]);
-    let number = |number| Point { number, colour: 0 };
+    let number = |number| Point { number, ..Point::default() };
+    let last = Point { number: 0, colour: 4, address: 81_919, bit: 7 };
     for (rotation, start, p, want) in [
-        (0, 20_479, 3, Point { number: 0, colour: 4 }),
+        (0, 20_479, 3, last),
         (0, 20_479, 4, number(25)),
         (0, 20_480, 0, number(25)),
         (0, 65_535, 0, number(25)),
         (0, 65_536, 0, number(21)),
         (2, 20_480, 0, number(25)),
-        (2, 20_480, 4, Point { number: 0, colour: 4 }),
-        (2, 0, 3, number(0)),
+        (2, 20_480, 4, last),
+        (2, 0, 3, Point { bit: 7, ..number(0) }),
         (2, 0, 4, number(25)),
         (2, 0, 8, number(24)),
     ] {
@@ -1016,8 +1018,131 @@ fn dwords_of_older() {
             }
         }
         if want == number(25) && rotation == 0 {
-            for read in [reference::read_point, unit::read_point] {
+            for read in READ {
                 assert_eq!(read(&screen, p, 0, &memory).number, 0);
+            }
+        }
+    }
+}
+
+// ---- Request e) of 02 ----
+
+/// Panel point (p, q), and what reading it gives: address, bit, colour.
+type Reading = ((u32, u32), (u32, u32, u32));
+
+/// Reads points of a screen that both chips take, from a memory that is 0 but for some bytes; the
+/// sheet says the same of them.
+fn reads(screen: &Screen, held: &[(u32, u8)], readings: &[Reading]) {
+    let mut memory = vec![0; MEMORY];
+    for &(at, byte) in held {
+        memory[at as usize] = byte;
+    }
+    let (settings, record) = (screen.settings(older_values(screen)), screen.record());
+    for &((p, q), (address, bit, colour)) in readings {
+        let want = Point { number: 0, colour, address, bit };
+        for (both, size) in [(READ, MEMORY), (OLDER_READ, older::MEMORY)] {
+            for read in both {
+                assert_eq!(read(&settings, p, q, &memory[..size]), want, "({p}, {q})");
+            }
+        }
+        let (p, q) = (p as usize, q as usize);
+        assert_eq!(sheet::stands(&record, p, q), (address, bit));
+        assert_eq!(sheet::shows(&record, &memory, p, q), colour);
+    }
+}
+
+/// The panel's first and last point on S1 to S4.
+#[test]
+fn places_of_s1_to_s4() {
+    let (first, last) = ((0, 0), (319, 239));
+    // At 0 and 180 degrees 240 lines of 160 bytes, at 90 and 270 degrees 320 lines of 120 bytes.
+    for (rotation, point, at, bit, byte) in [
+        (0, first, 0, 7, 0x50),
+        (1, first, 119, 3, 0x05),
+        (2, first, 38_399, 3, 0x05),
+        (3, first, 38_280, 7, 0x50),
+        (0, last, 38_399, 3, 0x05),
+        (1, last, 38_280, 7, 0x50),
+        (2, last, 0, 7, 0x50),
+        (3, last, 119, 3, 0x05),
+    ] {
+        reads(&Screen { rotation, ..S1 }, &[(at, byte)], &[(point, (at, bit, 5))]);
+    }
+}
+
+/// The pixels of a byte from the left, and the next byte's first, at each depth up to 8.
+#[test]
+fn places_in_a_byte() {
+    for (depth, colours) in
+        [(1, &[1, 0, 1, 0, 0, 1, 0, 1][..]), (2, &[2, 2, 1, 1]), (4, &[0xA, 5]), (8, &[0xA5])]
+    {
+        let screen = Screen { depth, panel: (32, 1), ..S1 };
+        let bits = [7, 6, 5, 4, 3, 2, 1, 0].into_iter().step_by(depth.into());
+        let mut readings: Vec<Reading> = (0..)
+            .zip(bits.zip(colours))
+            .map(|(p, (bit, &colour))| ((p, 0), (0, bit, colour)))
+            .collect();
+        readings.push(((colours.len() as u32, 0), (1, 7, 0)));
+        reads(&screen, &[(0, 0xA5)], &readings);
+    }
+}
+
+#[test]
+fn places_at_each_depth() {
+    // Line 2 of 40 bytes behind byte 8, its byte 1, and pixel 5 of 8.
+    let screen = Screen { depth: 1, base: 8, ..S1 };
+    reads(&screen, &[(89, 0x04)], &[((13, 2), (89, 2, 1)), ((12, 2), (89, 3, 0))]);
+    // View pixel (318, 239): byte 79 of the last line of 80, pixel 2 of 4.
+    let screen = Screen { depth: 2, rotation: 2, ..S1 };
+    reads(&screen, &[(19_199, 0x08)], &[((1, 0), (19_199, 3, 2)), ((0, 0), (19_199, 1, 0))]);
+    // View pixel (7, 314), on lines of 240 bytes.
+    let screen = Screen { depth: 8, rotation: 3, ..S1 };
+    reads(&screen, &[(75_367, 0xC3)], &[((5, 7), (75_367, 7, 0xC3))]);
+    // View pixel (237, 3), on lines of 480 bytes.
+    let screen = Screen { depth: 16, rotation: 1, panel: (160, 240), ..S1 };
+    reads(&screen, &[(1914, 0x34), (1915, 0x12)], &[((3, 2), (1914, 7, 0x1234))]);
+}
+
+/// S5's window behind main, on its own lines and on longer ones, and main beside it.
+#[test]
+fn places_in_the_window() {
+    // Window pixels (119, 0) and (0, 1); main's (183, 79).
+    let (corner, second, beside) = ((80, 56), (81, 175), (79, 56));
+    let window = Some((64, 80, 120, 160, 38_400));
+    // Main's and the window's line length, then the bytes of the last two.
+    for (lengths, second_at, beside_at) in
+        [((0, 0), 38_460, 9571), ((0, 240), 38_520, 9571), ((480, 240), 38_520, 19_051)]
+    {
+        reads(
+            &Screen { rotation: 1, window, lengths, ..S1 },
+            &[(38_459, 0x05), (second_at, 0x60), (beside_at, 0x07)],
+            &[(corner, (38_459, 3, 5)), (second, (second_at, 7, 6)), (beside, (beside_at, 3, 7))],
+        );
+    }
+}
+
+/// A refused point has neither colour nor place.
+#[test]
+fn refused_points() {
+    let memory = vec![0xFF; MEMORY];
+    let s1 = S1.settings([0, 0x28, 0, 0, 0, 0]);
+    for (screen, (p, q), number) in [
+        (Settings { flag: 2, ..s1 }, (9, 9), 1),
+        (Settings { depth: 3, ..s1 }, (9, 9), 2),
+        (Settings { rotation: 4, ..s1 }, (9, 9), 3),
+        (Settings { width: 321, ..s1 }, (9, 9), 4),
+        (Settings { rotation: 1, height: 241, ..s1 }, (9, 9), 5),
+        (Settings { values: [0, 0x400, 0, 0, 0, 0], ..s1 }, (9, 9), 21),
+        (s1, (320, 0), 24),
+        (s1, (0, 240), 24),
+        (Settings { values: [0xFFFF, 0x28, 0, 0, 0, 0], ..s1 }, (9, 0), 25),
+        (Settings { rotation: 2, values: [0, 0x28, 0, 0, 0, 0], ..s1 }, (9, 0), 25),
+    ] {
+        for (both, size) in [(READ, MEMORY), (OLDER_READ, older::MEMORY)] {
+            for read in both {
+                let refused = |number| Point { number, ..Point::default() };
+                assert_eq!(read(&screen, p, q, &memory[..size]), refused(number));
+                assert_eq!(read(&screen, p, q, &memory[..size - 1]), refused(18));
             }
         }
     }

@@ -37,11 +37,12 @@ use Rattle.chip.specs.Play.{Playing, newChip, playing, played}
 use Rattle.chip.proofs.Answers.{acceptedBy}
 use Rattle.chip.proofs.Commands.{quiet}
 use Rattle.chip.proofs.Plays.{Plays, plays-accepted, plays-played}
-use Rattle.unit.specs.Sheet.{sheetCommands, sheetAfter, sheetShows}
-use Rattle.unit.specs.Demands.{Demand1, Demand2, Demand3, InBytes, DrawnTruly, streamGiven, displayBy, displayGiven, OlderDemand1, writesGiven, valuesGiven, olderDisplay, SetTruly, OlderDemand2}
+use Rattle.unit.specs.Sheet.{sheetCommands, sheetAfter}
+use Rattle.unit.specs.Point.{sheetPoint, LooksTruly}
+use Rattle.unit.specs.Demands.{Demand1, Demand2, Demand2Read, Demand3, InBytes, DrawnTruly, streamGiven, displayBy, displayGiven, OlderDemand1, writesGiven, valuesGiven, olderDisplay, SetTruly, OlderDemand2}
 use Rattle.unit.proofs.Tables.{compile-decided, older-decided, play-decided, read-decided}
 use Rattle.unit.proofs.Listed.{Ends}
-use Rattle.unit.proofs.Points.{reads-sheet}
+use Rattle.unit.proofs.Points.{reads-sheet, looks-truly}
 use Rattle.unit.proofs.Whole.{rest-ends, whole-plays, plays-small, sheet-bytes, sheet-length}
 
 -- ---- demand 1
@@ -64,6 +65,11 @@ pub demand-2 : Demand2
 demand-2 bytes p q e hp hq =
     let r = read-accepted memorySize bytes (fieldsOf bytes) (sym (accepts memorySize bytes e)) in
     view·demand-2 memorySize (fieldsOf bytes) (r .2) p q hp hq
+
+pub demand-2-read : Demand2Read
+demand-2-read bytes memory p q e below len hp hq =
+    let r = read-accepted memorySize bytes (fieldsOf bytes) (sym (accepts memorySize bytes e)) in
+    looks-truly memorySize (fieldsOf bytes) (r .2) (r .3) (omega arith) memory len below p q hp hq
 
 -- ---- demand 3
 module _ (t : Task) (buffer : List ℕ) (e : compiling memorySize t (length buffer) .number ≡ 0) where
@@ -134,11 +140,11 @@ module _ (t : Task) (buffer memory : List ℕ) (below : InBytes t) (byte-memory 
       record {
         not-refused = ap (λ (x : Playing). x .number) playing-is;
         same-bytes = memory-is ∙ sym sheet-is;
-        same-colours = λ p q hp hq.
+        same-points = λ p q hp hq.
             (λ i. reading memorySize (display-is i) (playing-is i .values) p q (memory-is i))
             ∙ ap (λ (v : ScreenValues). reading memorySize (displayOf s) v p q sheet) (ends .screen)
             ∙ reads-sheet memorySize s (known .fields) (known .flag) limit sheet (sheet-length s (commandsIn t) (t .words) memory ∙ len) (sheet-bytes s (commandsIn t) (t .words) memory byte-memory) p q hp hq
-            ∙ ap (λ (x : List ℕ). record { number = 0; place = 0; colour = sheetShows s x p q }) (sym sheet-is);
+            ∙ ap (λ (x : List ℕ). sheetPoint s x p q) (sym sheet-is);
       }
 
 pub demand-3 : Demand3
@@ -195,9 +201,10 @@ module _ (t : Task) (buffer : List ℕ) (e : olderCompiling t (length buffer) .n
             subst (λ (w : Place). Shows olderMemory (older .depth) w (shownBit older p q))
             (sym (λ i. lookedAt (older-display i) (values-are i) p q))
             (view·demand-2 olderMemory older (fine .0) p q hp hq);
-        colours = λ memory bytes len p q hp hq.
-            (λ i. reading olderMemory (older-display i) (values-are i) p q memory)
-            ∙ reads-sheet olderMemory older (fine .0) (fine .1) small memory len bytes p q hp hq;
+        reads = λ memory bytes len p q hp hq.
+            subst (LooksTruly olderMemory older memory p q)
+            (sym (λ i. reading olderMemory (older-display i) (values-are i) p q memory))
+            (looks-truly olderMemory older (fine .0) (fine .1) small memory len bytes p q hp hq);
       }
 
 pub older-demand-2 : OlderDemand2

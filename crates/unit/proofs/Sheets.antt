@@ -15,13 +15,15 @@ use Rattle.screen.specs.Screen.{fieldsOf, wellFormed, panelOk, viewWidth, viewH
 use Rattle.screen.specs.Values.{windowX, windowY, originOf, valuesOf}
 use Rattle.screen.specs.declared.Image.{Image}
 use Rattle.view.specs.View.{pixelAt, viewPixel, inWindow, windowPixel}
+use Rattle.reader.specs.Read.{refusedPoint}
 use Rattle.command.specs.Command.{commandOf, commandBytes, surfaceOf, mustBeZero, formed, insideImage, placed, lineWords, wordsTaken, commandRows, refusal}
 use Rattle.command.specs.Values.{addressOf, destinationOf, sourceOf, isNegative, lastColumn, lastLine, commandValue, sourceValue, destinationValue, controlValue, blitValues}
 use Rattle.record.specs.Lists.{partsFrom, partsOf}
 use Rattle.compiler.specs.Stream.{recordsWith, screenRecords, dataRecords, commandRecords, drawRecords, recordsFor}
 use Rattle.command.specs.Task.{task, listRows, firstRefusal, allWords, wordRows, taskRefusal}
 use Rattle.compiler.specs.Compile.{roomRows, refusalOf, compiling, streamOf, bufferAfter}
-use Rattle.unit.specs.Sheet.{sheetPixel, hostPixel, sheetSource, sheetMix, newPixel, changes, sheetByte, sheetCommand, sheetCommands, sheetAfter, sheetShows}
+use Rattle.unit.specs.Sheet.{sheetAddress, sheetBit, sheetPixel, hostPixel, sheetSource, sheetMix, newPixel, changes, sheetByte, sheetCommand, sheetCommands, sheetAfter, sheetShows, shownAddress, shownPlace}
+use Rattle.unit.specs.Point.{sheetPoint}
 use Rattle.unit.specs.Kept.{isShown, inGap, outside}
 use Rattle.unit.specs.Draw.{drawing, memoryDrawn, streamDrawn, drawingOf, answerOf, showRows, showing}
 use Rattle.unit.specs.Cases.{command}
@@ -47,6 +49,21 @@ pub pixels : map (λ u. sheetPixel 1 (image 2) bytes (pixelAt u 1)) (0 ∷ 1 ∷
     ∷ []
 unfolding sheetPixel
 pixels = refl
+
+-- where they stand: the byte, then the place of the highest bit in it
+pub places : map (λ u. sheetAddress 1 (image 2) (pixelAt u 1)) (0 ∷ 1 ∷ 7 ∷ 8 ∷ []) ++ map (sheetBit 1) (map (λ u. pixelAt u 1) (0 ∷ 1 ∷ 2 ∷ 3 ∷ 4 ∷ 5 ∷ 6 ∷ 7 ∷ 8 ∷ []))
+    ++ map (λ u. sheetAddress 2 (image 2) (pixelAt u 1)) (0 ∷ 3 ∷ 4 ∷ []) ++ map (sheetBit 2) (map (λ u. pixelAt u 1) (0 ∷ 1 ∷ 2 ∷ 3 ∷ 4 ∷ []))
+    ++ map (λ u. sheetAddress 4 (image 2) (pixelAt u 1)) (0 ∷ 1 ∷ 2 ∷ []) ++ map (sheetBit 4) (map (λ u. pixelAt u 1) (0 ∷ 1 ∷ 2 ∷ []))
+    ++ map (λ u. sheetAddress 8 (image 3) (pixelAt u 1)) (0 ∷ 1 ∷ []) ++ map (sheetBit 8) (map (λ u. pixelAt u 1) (0 ∷ 1 ∷ []))
+    ++ map (λ u. sheetAddress 16 (image 3) (pixelAt u 0)) (0 ∷ 1 ∷ []) ++ map (sheetBit 16) (map (λ u. pixelAt u 1) (0 ∷ 1 ∷ []))
+    ≡ 3 ∷ 3 ∷ 3 ∷ 4 ∷ 7 ∷ 6 ∷ 5 ∷ 4 ∷ 3 ∷ 2 ∷ 1 ∷ 0 ∷ 7
+    ∷ 3 ∷ 3 ∷ 4 ∷ 7 ∷ 5 ∷ 3 ∷ 1 ∷ 7
+    ∷ 3 ∷ 3 ∷ 4 ∷ 7 ∷ 3 ∷ 7
+    ∷ 4 ∷ 5 ∷ 7 ∷ 7
+    ∷ 1 ∷ 3 ∷ 7 ∷ 7
+    ∷ []
+unfolding sheetBit
+places = refl
 
 -- ---- commands on a screen of 8 by 2 at depth 8 with a window of 4 by 2 at byte 16 over its right half
 abbrev screen : ℕ → List ℕ
@@ -156,11 +173,11 @@ answers = (refl, refl, refl, refl)
 
 -- line 1 of the panel: the main image's left half, and the window's second line over its right half; 18 before 1, 1 before 24, and 24
 abbrev shows : ℕ → ℕ → List ℕ
-shows p q = let r = showing 24 (screen 8) p q old in r .number ∷ r .place ∷ r .colour ∷ []
+shows p q = let r = showing 24 (screen 8) p q old in r .number ∷ r .place ∷ r .colour ∷ r .address ∷ r .bit ∷ []
 
 pub showings : map (λ p. shows p 1) (0 ∷ 3 ∷ 4 ∷ 7 ∷ 8 ∷ [])
-    ≡ (0 ∷ 0 ∷ 9 ∷ []) ∷ (0 ∷ 0 ∷ 12 ∷ []) ∷ (0 ∷ 0 ∷ 21 ∷ []) ∷ (0 ∷ 0 ∷ 24 ∷ []) ∷ (24 ∷ 0 ∷ 0 ∷ []) ∷ []
-unfolding allZero firstOf isDepth imageEnd fieldsOf wellFormed panelOk viewWidth viewHeight wholeDwords mainImage windowImage lineOk imageOk windowOk windowWhole fieldRows screenRows viewPixel inWindow windowPixel sheetPixel sheetShows showRows showing
+    ≡ (0 ∷ 0 ∷ 9 ∷ 8 ∷ 7 ∷ []) ∷ (0 ∷ 0 ∷ 12 ∷ 11 ∷ 7 ∷ []) ∷ (0 ∷ 0 ∷ 21 ∷ 20 ∷ 7 ∷ []) ∷ (0 ∷ 0 ∷ 24 ∷ 23 ∷ 7 ∷ []) ∷ (24 ∷ 0 ∷ 0 ∷ 0 ∷ 0 ∷ []) ∷ []
+unfolding allZero firstOf isDepth imageEnd fieldsOf wellFormed panelOk viewWidth viewHeight wholeDwords mainImage windowImage lineOk imageOk windowOk windowWhole fieldRows screenRows viewPixel inWindow windowPixel sheetBit sheetPixel sheetShows shownAddress shownPlace sheetPoint refusedPoint showRows showing
 showings = refl
 
 -- the lines of 12 pixels, upright and turned by 180 degrees: a line of the panel's, then the other's first and last points
@@ -172,10 +189,10 @@ pub wide-showings : map (wide-shows 0 1) (0 ∷ 1 ∷ 2 ∷ 3 ∷ 4 ∷ 5 ∷ 6 
     ≡ 99 ∷ 99 ∷ 99 ∷ 99 ∷ 21 ∷ 22 ∷ 23 ∷ 24 ∷ 99 ∷ 9 ∷ 23
     ∷ 24 ∷ 23 ∷ 22 ∷ 21 ∷ 99 ∷ 99 ∷ 99 ∷ 99 ∷ 23 ∷ 9 ∷ 99
     ∷ []
-unfolding allZero firstOf isDepth imageEnd fieldsOf wellFormed panelOk viewWidth viewHeight wholeDwords mainImage windowImage lineOk imageOk windowOk windowWhole fieldRows screenRows viewPixel inWindow windowPixel sheetPixel sheetShows showRows showing
+unfolding allZero firstOf isDepth imageEnd fieldsOf wellFormed panelOk viewWidth viewHeight wholeDwords mainImage windowImage lineOk imageOk windowOk windowWhole fieldRows screenRows viewPixel inWindow windowPixel sheetBit sheetPixel sheetShows shownAddress shownPlace sheetPoint refusedPoint showRows showing
 wide-showings = refl
 
 pub show-order : showing 24 [] 8 0 [] .number ∷ showing 24 [] 8 0 old .number ∷ showing 24 (screen 8) 0 2 old .number ∷ []
     ≡ 18 ∷ 1 ∷ 24 ∷ []
-unfolding allZero firstOf isDepth imageEnd fieldsOf wellFormed panelOk viewWidth viewHeight wholeDwords mainImage windowImage lineOk imageOk windowOk windowWhole fieldRows screenRows showRows showing
+unfolding allZero firstOf isDepth imageEnd fieldsOf wellFormed panelOk viewWidth viewHeight wholeDwords mainImage windowImage lineOk imageOk windowOk windowWhole fieldRows screenRows sheetPoint refusedPoint showRows showing
 show-order = refl

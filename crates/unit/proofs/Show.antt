@@ -1,4 +1,4 @@
--- What a panel point of a screen shows: refused by the screen's checks or outside the panel, or the sheet's colour.
+-- What a panel point of a screen shows: refused by the screen's checks or outside the panel, or the sheet's colour and where it stands.
 use mathlib.Core.Path.{_≡_, refl, sym, ap, subst, _∙_}
 use mathlib.Core.Bool.{Bool, true, false, not, _&&_, true≢false}
 use mathlib.Core.List.{List, [], _∷_, _++_}
@@ -19,10 +19,10 @@ use Rattle.screen.proofs.Fits.{values-pass}
 use Rattle.screen.specs.declared.ScreenValues.{ScreenValues}
 use Rattle.screen.specs.declared.ScreenAnswer.{ScreenAnswer}
 use Rattle.screen.specs.declared.ScreenAnswer.the-variants as screen
-use Rattle.reader.specs.Read.{readRows, reading, readingOf, answerOf, displayOf}
+use Rattle.reader.specs.Read.{readRows, refusedPoint, reading, readingOf, answerOf, displayOf}
 use Rattle.reader.specs.declared.PointAnswer.{PointAnswer}
 use Rattle.reader.specs.declared.PointAnswer.the-variants.{Refused}
-use Rattle.reader.proofs.Answer.{refused-answer}
+use Rattle.reader.proofs.Answer.{refused-answer, refused-by}
 use Rattle.reader.specs.declared.Display.{Display}
 use Rattle.unit.specs.Draw.{showRows, showing}
 use Rattle.unit.proofs.Points.{reads-sheet}
@@ -31,8 +31,8 @@ module _ (bytes : List ℕ) (p q : ℕ) (memory : List ℕ) where
   abbrev s : Screen
   s = fieldsOf bytes
 
-  -- refused by a number: no colour
-  by-number : (n : ℕ) → 0 < n → n ≡ firstOf (showRows memorySize bytes p q memory) → record { number = n; place = 0; colour = 0 } ≡ showing memorySize bytes p q memory
+  -- refused by a number
+  by-number : (n : ℕ) → 0 < n → n ≡ firstOf (showRows memorySize bytes p q memory) → refusedPoint n ≡ showing memorySize bytes p q memory
   unfolding showing
   by-number n h e = rw (← e) (rw (ne-eqb n 0 (λ z. omega arith)) refl)
 
@@ -50,7 +50,7 @@ module _ (bytes : List ℕ) (p q : ℕ) (memory : List ℕ) where
     sized x e = row-passes 18 _ (ap not (eq-eqb (length memory) memorySize len)) e
 
     -- the screen is refused
-    pub show-refused : (n : ℕ) → 0 < n → n ≡ firstOf (screenRows memorySize bytes) → record { number = n; place = 0; colour = 0 } ≡ showing memorySize bytes p q memory
+    pub show-refused : (n : ℕ) → 0 < n → n ≡ firstOf (screenRows memorySize bytes) → refusedPoint n ≡ showing memorySize bytes p q memory
     show-refused n h e =
         by-number n h (sized n (e ∙ sym (first-part (screenRows memorySize bytes) _ (omega (arith, h, e)))))
 
@@ -73,9 +73,8 @@ module _ (bytes : List ℕ) (p q : ℕ) (memory : List ℕ) where
           (row-fails _ (ap not out))))))))
 
       outside : (ltb p (s .width) && ltb q (s .height)) ≡ false → reading memorySize (displayOf s) (valuesOf s) p q memory ≡ showing memorySize bytes p q memory
-      unfolding reading
       outside out =
-          rw (← reader-24 out) (by-number 24 (lit< tt) (passes 24 (row-fails _ (ap not out))))
+          sym (refused-by memorySize (displayOf s) (valuesOf s) p q memory 24 (lit< tt) (reader-24 out)) ∙ by-number 24 (lit< tt) (passes 24 (row-fails _ (ap not out)))
 
       inside : AllBelow 256 memory → (ltb p (s .width) && ltb q (s .height)) ≡ true → reading memorySize (displayOf s) (valuesOf s) p q memory ≡ showing memorySize bytes p q memory
       unfolding showing

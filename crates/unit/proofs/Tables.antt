@@ -31,7 +31,7 @@ use Rattle.chip.proofs.Admits.{numbered as admit·numbered}
 use Rattle.chip.proofs.Tables.{Says, table-end, table-step}
 use Rattle.reader.specs.Read.{readRows, reading}
 use Rattle.reader.specs.declared.Display.{Display}
-use Rattle.reader.proofs.Answer.{numbered as read·numbered}
+use Rattle.reader.proofs.Answer.{numbered as read·numbered, number-is as read·number-is, place-is as read·place-is}
 use Rattle.unit.specs.Tables.{listedRows, taskRows, compileRows, recordRows, playRows}
 use Rattle.unit.specs.Demands.{Decided}
 
@@ -263,6 +263,7 @@ module _ (m : ℕ) (stream memory : List ℕ) where
 -- ---- the point reader
 pub read-decided : (m : ℕ) (d : Display) (v : ScreenValues) (p q : ℕ) (memory : List ℕ)
     → Decided (reading m d v p q memory .number) (reading m d v p q memory .place) (readRows m d v p q memory)
-unfolding reading
 read-decided m d v p q memory =
-    decided refl (sym (placeless (readRows m d v p q memory) (read-placeless m d v p q memory))) (read·numbered m d v p q memory)
+    decided (read·number-is m d v p q memory)
+    (read·place-is m d v p q memory ∙ sym (placeless (readRows m d v p q memory) (read-placeless m d v p q memory)))
+    (read·numbered m d v p q memory)

@@ -1,17 +1,20 @@
--- 01's cases S1 to S9 and B1 to B3 (01, "Cases"), those of line lengths (02, c) and of the S1D13706 (02, d) as one list.
+-- 01's cases S1 to S9 and B1 to B3 (01, "Cases"), those of line lengths (02, c), of the S1D13706 (02, d) and of where a point's pixel
+-- stands (02, e) as one list.
 use Prim.Native.Nat.{ℕ}
 use mathlib.Core.List.{List, [], _∷_, _++_}
 use lib.ListN.{take, drop}
 use Rattle.record.specs.Record.{recordsOf}
 use Rattle.record.specs.declared.Record.{Record}
-use Rattle.screen.specs.Cases.{Case, case, screenCases, lineCases, lined, plain}
+use Rattle.screen.specs.Cases.{Case, case, screenCases, lineCases, lined, plain, withWindow}
 use Rattle.screen.specs.Screen.{memorySize, fieldsOf}
+use Rattle.screen.specs.Values.{valuesOf}
+use Rattle.reader.specs.Read.{displayOf, lookedAt, addressAt, bitAt}
 use Rattle.command.specs.Command.{commandBytes}
 use Rattle.command.specs.Task.{task, commandsIn}
 use Rattle.compiler.specs.Compile.{compiling, streamOf}
 use Rattle.older.specs.Cases.{exampleCases, olderCases}
 use Rattle.chip.specs.Play.{newChip, run, applied}
-use Rattle.unit.specs.Sheet.{sheetCommands}
+use Rattle.unit.specs.Sheet.{sheetCommands, shownAddress, shownPlace}
 
 -- a command record: operation, raster code, rectangle, source, colour; on the main image
 abbrev pub command : ℕ → ℕ → ℕ → ℕ → ℕ → ℕ → ℕ → ℕ → ℕ → List ℕ
@@ -75,5 +78,44 @@ drawCases =
     ∷ [])
     ∷ []
 
+-- where the pixel of panel point (p, q) of a screen stands, byte and place of the highest bit: by the chip's walk, then on the sheet
+abbrev stands : List ℕ → ℕ → ℕ → List ℕ
+stands screen p q =
+    let s = fieldsOf screen in
+    let w = lookedAt (displayOf s) (valuesOf s) p q in
+    addressAt (s .depth) w ∷ bitAt (s .depth) w ∷ shownAddress s p q ∷ shownPlace s p q ∷ []
+
+abbrev standsAt : List ℕ → ℕ → ℕ → ℕ → ℕ → Case
+standsAt screen p q address bit = case (stands screen p q) (address ∷ bit ∷ address ∷ bit ∷ [])
+
+unfoldable pub pointCases : List Case
+pointCases =
+    -- 002's addresses of pixels: examples 9 and 16 (B1) at depth 8, 11 and 12 at depth 16, there the low byte's
+    standsAt (plain 8 0 320 240 0) 25 38 0x2F99 7
+    ∷ standsAt (plain 8 0 320 240 0) 10 20 0x190A 7
+    ∷ standsAt (plain 16 0 320 240 0) 100 10 0x19C8 7
+    ∷ standsAt (plain 16 0 320 240 0) 200 20 0x3390 7
+    -- 002's figures 4-1 to 4-3: the pixels of the first byte, and the first of the next
+    ∷ standsAt (plain 1 0 320 240 0) 0 0 0 7
+    ∷ standsAt (plain 1 0 320 240 0) 1 0 0 6
+    ∷ standsAt (plain 1 0 320 240 0) 7 0 0 0
+    ∷ standsAt (plain 1 0 320 240 0) 8 0 1 7
+    ∷ standsAt (plain 2 0 320 240 0) 1 0 0 5
+    ∷ standsAt (plain 2 0 320 240 0) 3 0 0 1
+    ∷ standsAt (plain 2 0 320 240 0) 4 0 1 7
+    ∷ standsAt (plain 4 0 320 240 0) 1 0 0 3
+    ∷ standsAt (plain 4 0 320 240 0) 2 0 1 7
+    -- S1 to S4: the panel's first point is in the start's dword, its first pixel at 0 and 270 degrees, its last at 90 and 180
+    ∷ standsAt (plain 4 0 320 240 0) 0 0 0 7
+    ∷ standsAt (plain 4 1 320 240 0) 0 0 0x77 3
+    ∷ standsAt (plain 4 2 320 240 0) 0 0 0x95FF 3
+    ∷ standsAt (plain 4 3 320 240 0) 0 0 0x9588 7
+    -- S5 and S7: the window's first point, at (X start, 8 × Y start) and at (8 × X start, Y start), has its image's last pixel of a line
+    ∷ standsAt (withWindow 1 64 80 120 160) 0x50 56 59 3
+    ∷ standsAt (withWindow 2 80 60 160 120) 80 0x3C 0x257F 3
+    -- S9: the last point is in the last byte
+    ∷ standsAt (plain 2 0 1024 1024 0) 1023 1023 0x3FFFF 1
+    ∷ []
+
 unfoldable pub cases : List Case
-cases = screenCases ++ lineCases ++ drawCases ++ exampleCases ++ olderCases
+cases = screenCases ++ lineCases ++ drawCases ++ exampleCases ++ olderCases ++ pointCases

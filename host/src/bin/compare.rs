@@ -1,6 +1,7 @@
 //! Compares the library with the reference on random inputs, and the reference with the plain sheet
 //! and with pixel-by-pixel playing; the player that is fed in blocks also with the one that is not,
-//! and the older chip's bytes with the other chip's values.
+//! the older chip's bytes with the other chip's values, and a point's colour with the bits of memory
+//! where it is said to stand.
 //!
 //!     compare [--reference-only] [COUNT [SEED [FIRST]]]
 //!
@@ -85,7 +86,13 @@ struct Seen {
     screens: [[u64; 2]; 4],
     /// Points before the memory's first dword, in its last one, and in the one behind it.
     dwords: [u64; 3],
+    /// Points that are accepted, by depth (1 to 16) and the highest bit's place (0 to 7).
+    places: [[u64; 8]; DEPTHS.len()],
+    /// Those of depth 8 in a byte of odd address.
+    odd: u64,
 }
+
+const DEPTHS: [u32; 5] = [1, 2, 4, 8, 16];
 
 /// A difference, in words and with the input.
 type Checked = Result<(), String>;
@@ -199,6 +206,18 @@ fn settings(answer: Compiled, screen: &[u8], values: [u32; 6]) -> Settings {
 /// The values of the records at a stream's front.
 fn record_values<const N: usize>(stream: &[u8]) -> [u32; N] {
     std::array::from_fn(|i| u32::from_le_bytes(stream[8 * i + 4..8 * i + 8].try_into().unwrap()))
+}
+
+/// The colour that stands in a memory at a byte: so many bits from a place down, at depth 16 all of
+/// the byte, then the next one. Nothing where the bits are not there.
+fn colour_at(memory: &[u8], depth: u32, address: u32, bit: u32) -> Option<u32> {
+    let byte = |at: usize| memory.get(at).map(|&byte| u32::from(byte));
+    let at = address as usize;
+    match (depth, bit) {
+        (16, 7) => Some(byte(at)? + 256 * byte(at + 1)?),
+        (1..=8, 0..=7) => Some(byte(at)? >> (bit + 1).checked_sub(depth)? & ((1 << depth) - 1)),
+        _ => None,
+    }
 }
 
 impl Bench {
@@ -357,11 +376,21 @@ impl Bench {
         let memory = &self.memory[0];
         let answer = chip.read_point[0](settings, p, q, memory);
         let theirs = chip.read_point[1](settings, p, q, memory);
-        same("point", answer, theirs, input)?;
-        self.seen[chip.read][answer.number as usize] += 1;
-        if let (0 | 25, Ok((dword, _))) = (answer.number, reference::walk(settings, p, q)) {
+        same("point", answer, theirs, &input)?;
+        let (Point { number, colour, address, bit }, depth) = (answer, settings.depth);
+        self.seen[chip.read][number as usize] += 1;
+        let seen = &mut self.chips[chip.index];
+        if number == 0 {
+            let there = colour_at(memory, depth, address, bit);
+            same("the bits where a point stands", Some(colour), there, &input)?;
+            seen.places[depth.trailing_zeros() as usize][bit as usize] += 1;
+            seen.odd += u64::from(depth == 8 && address % 2 == 1);
+        } else {
+            same("a refused point", answer, Point { number, ..Point::default() }, &input)?;
+        }
+        if let (0 | 25, Ok((dword, _))) = (number, reference::walk(settings, p, q)) {
             let past = chip.memory as i64 / 4;
-            let [before, last, behind] = &mut self.chips[chip.index].dwords;
+            let [before, last, behind] = &mut seen.dwords;
             *before += u64::from(dword < 0);
             *last += u64::from(dword == past - 1);
             *behind += u64::from(dword == past);
@@ -381,9 +410,11 @@ impl Bench {
         let mut read = |p: u32, q: u32| {
             let input =
                 || format!("  {} {settings:?} ({p}, {q})\n{}", chip.name, drawing_text(drawing));
-            let Point { number, colour } = self.read(chip, &settings, (p, q), input)?;
-            let shown = sheet::shows(&drawing.screen, &self.third, p as usize, q as usize);
-            same("the sheet's point", (number, colour), (0, shown), input)
+            let answer = self.read(chip, &settings, (p, q), input)?;
+            let (p, q) = (p as usize, q as usize);
+            let colour = sheet::shows(&drawing.screen, &self.third, p, q);
+            let (address, bit) = sheet::stands(&drawing.screen, p, q);
+            same("the sheet's point", answer, Point { number: 0, colour, address, bit }, input)
         };
         if width * height <= 4096 {
             for q in 0..height {
@@ -687,11 +718,20 @@ fn main() -> ExitCode {
     println!("{report}");
     let mut missed = !unseen.is_empty();
     for (chip, seen) in [NEWER, OLDER].iter().zip(&bench.chips) {
-        let Seen { lengths, screens, dwords } = seen;
+        let Seen { lengths, screens, dwords, places, odd } = seen;
         println!("{}: 26 for main and for the window {lengths:?}", chip.name);
         println!("  accepted by rotation, without and with the window {screens:?}");
         println!("  points before the first dword, in the last, behind it {dwords:?}");
-        missed |= lengths.iter().chain(screens.as_flattened()).chain(dwords).any(|&n| n == 0);
+        let rest = lengths.iter().chain(screens.as_flattened()).chain(dwords);
+        missed |= rest.chain([odd]).any(|&n| n == 0);
+        for (depth, places) in DEPTHS.into_iter().zip(places) {
+            // The places that pixels of the depth have.
+            let step = depth.min(8) as usize;
+            let places: Vec<u64> = places.iter().rev().step_by(step).copied().collect();
+            println!("  points at depth {depth} by place, from 7 down {places:?}");
+            missed |= places.contains(&0);
+        }
+        println!("  points at depth 8 in a byte of odd address {odd}");
     }
     if missed {
         println!("\nnot all seen; numbers {unseen:?}");

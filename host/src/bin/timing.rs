@@ -203,8 +203,9 @@ impl Timing {
             let mut sum = 0u64;
             for q in first..first + 16 {
                 for p in 0..width {
-                    let point = read(settings, p, q, &memory);
-                    sum += u64::from(point.colour) + (u64::from(point.number) << 32);
+                    let Point { number, colour, address, bit } = read(settings, p, q, &memory);
+                    sum += u64::from(colour) + u64::from(address) + u64::from(bit);
+                    sum += u64::from(number) << 48;
                 }
             }
             sum
@@ -212,7 +213,7 @@ impl Timing {
         let (mut ours, mut theirs) = (0.0, 0.0);
         for first in (0..height).step_by(16) {
             let sum = band(reference::read_point, first);
-            assert!(sum < 1 << 32 && sum == band(unit::read_point, first));
+            assert!(sum < 1 << 48 && sum == band(unit::read_point, first));
             let times = best(
                 self.rounds / 4 + 1,
                 &mut [
