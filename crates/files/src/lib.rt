@@ -115,16 +115,20 @@ pub fn load(i: usize, buffer: &mut [u8]) -> Loaded
     load_path(&path[..n], buffer)
 }
 
+// Whether argument i is a word.
+pub fn is_word(i: usize, word: &[u8]) -> bool
+    ensures { λ r. ⌜ YesOrNo r ⌝ }
+{
+    let mut path = io::buffer();
+    let n = os::arg(i, &mut path);
+    check::same(&path[..n], word)
+}
+
 // Whether argument i is left out: there is none, or it is a single `-`.
 pub fn is_left_out(i: usize) -> bool
     ensures { λ r. ⌜ YesOrNo r ⌝ }
 {
-    if os::arg_count() <= i {
-        return true;
-    }
-    let mut path = io::buffer();
-    let n = os::arg(i, &mut path);
-    n == 1 && path[0] == b'-'
+    os::arg_count() <= i || is_word(i, b"-")
 }
 
 // Reads the host words of the file that argument i names, two bytes each; none where it is left out.
@@ -167,7 +171,7 @@ pub fn load_memory(i: usize, memory: &mut [u8]) -> Loaded
 pub fn number(i: usize) -> Number
     ensures { λ r. ⌜ GivenNumber r ⌝ }
 {
-    let mut word = io::buffer();
-    let n = os::arg(i, &mut word);
-    text_lines::number_of(&word[..n])
+    let mut path = io::buffer();
+    let n = os::arg(i, &mut path);
+    text_lines::number_of(&path[..n])
 }

@@ -14,17 +14,7 @@
 ghost use Prim.Native.Nat.{_≤_};
 ghost use mathlib.Core.Path.{_≡_};
 ghost use mathlib.Core.Bool.{cond};
-ghost use Rattle.files.specs.System.{YesOrNo};
 use panel_show::Asked;
-
-// Whether argument 1 is `--at`.
-fn is_at() -> bool
-    ensures { λ r. ⌜ YesOrNo r ⌝ }
-{
-    let mut word = [0u8; 4];
-    let n = os::arg(1, &mut word);
-    check::same(&word[..n], b"--at")
-}
 
 // Which argument names the screen record: the one behind the point, or the first.
 fn screen_at(at: bool) -> usize
@@ -86,7 +76,7 @@ fn run_from(asked: Asked, first: usize)
 }
 
 fn main() {
-    let at = is_at();
+    let at = files::is_word(1, b"--at");
     let first = screen_at(at);
     let count = os::arg_count();
     if count < first + 2 || first + 5 < count {
