@@ -53,7 +53,14 @@ fn run_with(asked: Asked, first: usize, screen: &[u8], list: &[u8])
         return;
     }
     let nv = v.n;
-    panel_show::run_through(asked, screen, list, &words[..nw], &view[..nv], &mut memory[..nm]);
+    panel_show::run_through(
+        asked,
+        screen,
+        list,
+        &words[..nw],
+        &view[..nv],
+        &mut memory[..nm],
+    );
 }
 
 // Reads the screen record and the list, which the arguments from `first` on name, and then the other files.
@@ -80,7 +87,10 @@ fn main() {
     let first = screen_at(at);
     let count = os::arg_count();
     if count < first + 2 || first + 5 < count {
-        files::say(b"usage", b"panel [--at P Q] SCREEN LIST [WORDS [MEMORY [VIEW]]]");
+        files::say(
+            b"usage",
+            b"panel [--at P Q] SCREEN LIST [WORDS [MEMORY [VIEW]]]",
+        );
         return;
     }
     let mut asked = Asked::Picture;

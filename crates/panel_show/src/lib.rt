@@ -60,7 +60,14 @@ pub fn run(asked: Asked, screen: &[u8], list: &[u8], words: &[u16], memory: &mut
 
 // Draws the list over the memory on one screen, and writes what another shows of it, drawn on with an empty list. Or the refusal
 // of the first that refuses.
-pub fn run_through(asked: Asked, screen: &[u8], list: &[u8], words: &[u16], view: &[u8], memory: &mut [u8])
+pub fn run_through(
+    asked: Asked,
+    screen: &[u8],
+    list: &[u8],
+    words: &[u16],
+    view: &[u8],
+    memory: &mut [u8],
+)
     ensures { λ _. ⌜ now (memory .exit) ≡ memoryDrawn memorySize (task (now (screen .entry)) (now (list .entry)) (now (words .entry))) 2097152 (now (memory .entry)) ⌝ }
 {
     let whole = draw_on(screen, list, words, memory);

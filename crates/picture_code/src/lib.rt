@@ -114,7 +114,14 @@ pub fn put_points(d: Display, values: ScreenValues, q: u32, memory: &[u8], line:
 }
 
 // The line of panel point (p, q), or of its refusal, cut where there is no room; answers its bytes.
-pub fn put_answer(d: Display, values: ScreenValues, p: u32, q: u32, memory: &[u8], line: &mut [u8]) -> usize
+pub fn put_answer(
+    d: Display,
+    values: ScreenValues,
+    p: u32,
+    q: u32,
+    memory: &[u8],
+    line: &mut [u8],
+) -> usize
     ensures { λ r. ⌜ Stored (now (line .entry)) 0 (answerLine (answerOf (reading memorySize d values p q (now (memory .entry))))) (now (line .exit)) r ⌝ }
 {
     let answer = reader_code::read_point(d, values, p, q, memory);
