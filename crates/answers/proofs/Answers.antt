@@ -1,5 +1,5 @@
 -- The structs that the C library gives back, one law for each way out.
-use Prim.Native.Nat.{ℕ}
+use Prim.Native.Nat.{ℕ, _^_, _<_}
 use mathlib.Core.Path.{_≡_, sym, ap, subst, refl, _∙_}
 use mathlib.Core.List.{List, [], _∷_}
 use Rattle.screen.specs.declared.Screen.{Screen}
@@ -75,13 +75,18 @@ unfolding displayOf
 display-with s = refl
 
 module _ (a : PointAnswer) where
-  pub point-accepted : (k : ℕ) → a ≡ PointAnswer.Colour k → record { number = 0; colour = k } ≡ pointOf (readingOf a)
+  pub point-accepted : (k at place : ℕ) → a ≡ PointAnswer.Shown k at place → record { number = 0; colour = k; address = at; bit = place } ≡ pointOf (readingOf a)
   unfolding pointOf readingOf
-  point-accepted k e = ap (λ (x : PointAnswer). pointOf (readingOf x)) (sym e)
+  point-accepted k at place e = ap (λ (x : PointAnswer). pointOf (readingOf x)) (sym e)
 
-  pub point-refused : (n : ℕ) → a ≡ PointAnswer.Refused n → record { number = n; colour = 0 } ≡ pointOf (readingOf a)
+  pub point-refused : (n : ℕ) → a ≡ PointAnswer.Refused n → record { number = n; colour = 0; address = 0; bit = 0 } ≡ pointOf (readingOf a)
   unfolding pointOf readingOf
   point-refused n e = ap (λ (x : PointAnswer). pointOf (readingOf x)) (sym e)
+
+  -- its address, where the answer's numbers have one of 32 bits
+  pub point-narrow : (k at place : ℕ) → a ≡ PointAnswer.Shown k at place → readingOf a .address < 2 ^ 32 → at < 2 ^ 32
+  unfolding readingOf
+  point-narrow k at place e f = subst (λ (x : PointAnswer). readingOf x .address < 2 ^ 32) e f
 
 -- an answer read from values that are w
 pub point-with : (r : S1dPoint) (a : PointAnswer) (m : ℕ) (d : Display) (v w : ScreenValues) (p q : ℕ) (memory : List ℕ)

@@ -1,6 +1,6 @@
--- The screen values that playing and drawing give lie in their fields, and so fit 32 bits.
-use Prim.Native.Nat.{ℕ, _/_, _%_, _<_, _≤_}
-use mathlib.Core.Path.{_≡_, sym, subst}
+-- The screen values that playing and drawing give lie in their fields, and so fit 32 bits; a reading's address lies in the memory.
+use Prim.Native.Nat.{ℕ, _/_, _%_, _^_, _<_, _≤_}
+use mathlib.Core.Path.{_≡_, sym, ap, subst}
 use mathlib.Core.List.{List}
 use mathlib.Core.Bool.{not}
 use native.Mathlib.Omega.{arith}
@@ -20,6 +20,10 @@ use Rattle.chip.specs.declared.Chip.{Chip}
 use Rattle.chip.specs.declared.Played.{Played}
 use Rattle.chip.specs.declared.Run.{Run}
 use Rattle.chip.proofs.Screens.{Each, each-run}
+use Rattle.reader.specs.Read.{Reading, reading, readingOf}
+use Rattle.reader.specs.declared.Display.{Display}
+use Rattle.reader.specs.declared.PointAnswer.{PointAnswer}
+use Rattle.reader.proofs.Answer.{address-within}
 use Rattle.command.specs.Task.{Task, screenIn}
 use Rattle.compiler.specs.Compile.{compiling}
 use Rattle.compiler.proofs.Accepted.{compiled-says}
@@ -96,6 +100,12 @@ playing-fits m stream memory =
 
 pub play-narrow : (a : Played) (m : ℕ) (stream memory : List ℕ) → playingOf a ≡ playing m stream memory → Narrow (playingOf a .values)
 play-narrow a m stream memory e = narrow (playingOf a .values) (subst Fine (sym e) (playing-fits m stream memory))
+
+-- ---- a point
+pub read-narrow : (a : PointAnswer) (m : ℕ) (d : Display) (v : ScreenValues) (p q : ℕ) (memory : List ℕ) → m < 2 ^ 32
+    → readingOf a ≡ reading m d v p q memory → readingOf a .address < 2 ^ 32
+read-narrow a m d v p q memory small e =
+    omega (arith, ap (λ (r : Reading). r .address) e, address-within m d v p q memory)
 
 -- ---- drawing
 abbrev FineDrawn : Drawing → Type 0

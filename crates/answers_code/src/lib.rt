@@ -1,5 +1,6 @@
 // The answers of compiling, playing, reading and drawing as the C library's structs of numbers.
 ghost use mathlib.Core.Path.{_≡_};
+ghost use Prim.Native.Nat.{_^_, _<_};
 ghost use Rattle.screen.specs.Narrow.{Narrow};
 ghost use Rattle.compiler.specs.Compile.{compilingOf};
 ghost use Rattle.chip.specs.Play.{playingOf};
@@ -68,14 +69,22 @@ pub fn played_of(a: Played) -> Answer
 
 // The point reader's answer.
 pub fn point_of(a: PointAnswer) -> S1dPoint
+    requires { ⌜ readingOf a .address < 2 ^ 32 ⌝ }
     ensures { λ r. ⌜ r ≡ pointOf (readingOf a) ⌝ }
 {
     match a {
-        PointAnswer::Colour(colour) => S1dPoint {
+        PointAnswer::Shown(colour, at, highest) => S1dPoint {
             number: 0,
             colour: colour as u32,
+            address: at as u32,
+            bit: highest,
         },
-        PointAnswer::Refused(number) => S1dPoint { number, colour: 0 },
+        PointAnswer::Refused(number) => S1dPoint {
+            number,
+            colour: 0,
+            address: 0,
+            bit: 0,
+        },
     }
 }
 

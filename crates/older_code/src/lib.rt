@@ -170,7 +170,7 @@ pub fn compile<'a>(
     compiler_code::refused_part(list, c)
 }
 
-// The colour that panel point (p, q) shows in the S1D13706's memory, or the first refusal number.
+// What panel point (p, q) shows, and where that stands in the S1D13706's memory, or the first refusal number.
 pub fn read_point(d: Display, values: ScreenValues, p: u32, q: u32, memory: &[u8]) -> PointAnswer
     ensures { λ r. ⌜ readingOf r ≡ reading olderMemory d values p q (now (memory .entry)) ⌝ }
     ensures { λ r. ⌜ r ≡ pointOf (reading olderMemory d values p q (now (memory .entry))) ⌝ }

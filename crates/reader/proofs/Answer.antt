@@ -169,3 +169,15 @@ pub standing : Standing
 standing m d v p q memory e =
     let f = sym (number-is m d v p q memory) ∙ e in
     subst (Stands m (d .depth) memory) (sym (reading-is m d v p q memory f)) (stands-at m d v p q memory f)
+
+-- no reading's address, a refusal's 0 among them, lies past the memory's end
+within-by : (m n depth : ℕ) (memory : List ℕ) (w : Place) (t : Bool) → eqb n 0 ≡ t → (n ≡ 0 → addressAt depth w ≤ m) → cond t (readAt depth memory w) (refusedPoint n) .address ≤ m
+unfolding readAt refusedPoint
+within-by m n depth memory w true e f = f (eqb-true n 0 e)
+within-by m n depth memory w false e f = omega arith
+
+pub address-within : (m : ℕ) (d : Display) (v : ScreenValues) (p q : ℕ) (memory : List ℕ) → reading m d v p q memory .address ≤ m
+unfolding readAt reading
+address-within m d v p q memory =
+    within-by m (firstOf (readRows m d v p q memory)) (d .depth) memory (lookedAt d v p q) (eqb (firstOf (readRows m d v p q memory)) 0) refl
+    (λ f. omega (arith, stands-at m d v p q memory f .inside))

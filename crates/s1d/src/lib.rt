@@ -1,5 +1,6 @@
 // The C library: the functions of include/s1d.h.
 ghost use mathlib.Core.Path.{_≡_};
+ghost use Prim.Native.Nat.{_^_, _<_};
 ghost use lib.ListN.{length};
 ghost use Rattle.screen.specs.Screen.{memorySize};
 ghost use Rattle.command.specs.Task.{task};
@@ -46,7 +47,7 @@ pub extern "C" fn s1d_play(stream: &[u8], memory: &mut [u8]) -> Answer
     answers_code::played_of(answer)
 }
 
-// The colour that panel point (p, q) shows in a memory of so many bytes, for both chips. The point reader, called from here alone, is inlined.
+// What panel point (p, q) shows in a memory of so many bytes, for both chips. The point reader, called from here alone, is inlined.
 fn point_in(
     depth: u32,
     rotation: u32,
@@ -59,6 +60,7 @@ fn point_in(
     memory: &[u8],
     size: u64,
 ) -> S1dPoint
+    requires { ⌜ size < 2 ^ 32 ⌝ }
     ensures { λ r. ⌜ r ≡ pointOf (reading size (displayWith depth rotation flag width height) (valuesWith (now (values .entry))) p q (now (memory .entry))) ⌝ }
 {
     let d = Display {
@@ -73,7 +75,7 @@ fn point_in(
     answers_code::point_of(answer)
 }
 
-// The colour that panel point (p, q) shows.
+// What panel point (p, q) shows, and where that stands in memory.
 #[no_mangle]
 pub extern "C" fn s1d_read_point(
     depth: u32,
@@ -173,7 +175,7 @@ pub extern "C" fn s1d06_values(bytes: &[u8; 18]) -> S1dValues
     answers_code::values_in(older_code::values_from(bytes))
 }
 
-// The colour that panel point (p, q) shows in the S1D13706's memory.
+// What panel point (p, q) shows, and where that stands in the S1D13706's memory.
 #[no_mangle]
 pub extern "C" fn s1d06_read_point(
     depth: u32,

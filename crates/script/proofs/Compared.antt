@@ -16,7 +16,7 @@ use Rattle.chip.specs.declared.Played.the-variants.{Accepted as Played·Accepte
 use Rattle.reader.specs.Read.{reading, answerOf}
 use Rattle.reader.specs.declared.Display.{Display}
 use Rattle.reader.specs.declared.PointAnswer.{PointAnswer}
-use Rattle.reader.specs.declared.PointAnswer.the-variants.{Colour, Refused as Point·Refused}
+use Rattle.reader.specs.declared.PointAnswer.the-variants.{Shown, Refused as Point·Refused}
 use Rattle.script.specs.Script.{numberAt, numberOf}
 use Rattle.script.specs.Verdict.{isRecord, displayOn, isColour, isPoint, sameBytes}
 
@@ -36,9 +36,9 @@ module _ (c : Compiled) (desk : List ℕ) (w h : ℕ) (e : w ≡ numberAt desk 4
   display-refused n i g = rw (g, e, f)
 
 module _ (line : List ℕ) (a : PointAnswer) where
-  pub colour-shown : (c n : ℕ) → a ≡ Colour c → n ≡ numberOf line 2 → eqb c n ≡ isColour line a
+  pub colour-shown : (c address bit n : ℕ) → a ≡ Shown c address bit → n ≡ numberOf line 2 → eqb c n ≡ isColour line a
   unfolding isColour
-  colour-shown c n e f = rw (e, f)
+  colour-shown c address bit n e f = rw (e, f)
 
   pub colour-refused : (n : ℕ) → a ≡ Point·Refused n → false ≡ isColour line a
   unfolding isColour

@@ -13,7 +13,7 @@ use Rattle.chip.specs.declared.Played.the-variants.{Accepted as Played·Accepte
 use Rattle.reader.specs.Read.{reading, answerOf}
 use Rattle.reader.specs.declared.Display.{Display}
 use Rattle.reader.specs.declared.PointAnswer.{PointAnswer}
-use Rattle.reader.specs.declared.PointAnswer.the-variants.{Colour, Refused}
+use Rattle.reader.specs.declared.PointAnswer.the-variants.{Shown, Refused}
 use Rattle.script.specs.Script.{numberAt, numberOf}
 use Rattle.script.specs.Steps.{screenStep, commandStep, wordStep, storeStep, patchStep, exampleStep, keepStep, compileStep, olderStep, playStep}
 use Rattle.script.specs.declared.Tally.{Tally}
@@ -75,7 +75,7 @@ displayOn c desk =
 
 -- a point shows the line's colour
 unfoldable pub isColour : List ℕ → PointAnswer → Bool
-isColour line (Colour c) = eqb c (numberOf line 2)
+isColour line (Shown c address bit) = eqb c (numberOf line 2)
 isColour line (Refused n) = false
 
 -- the line's panel point, after playing, shows the line's colour

@@ -94,7 +94,7 @@ fn is_colour(line: &[u8], a: PointAnswer) -> bool
 {
     let colour = script_code::number(line, 2);
     match a {
-        PointAnswer::Colour(c) => c as u32 == colour,
+        PointAnswer::Shown(c, address, bit) => c as u32 == colour,
         PointAnswer::Refused(n) => false,
     }
 }

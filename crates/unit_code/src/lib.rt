@@ -44,7 +44,7 @@ pub fn draw(
     }
 }
 
-// The colour that panel point (p, q) of a screen shows over a memory.
+// What panel point (p, q) of a screen shows over a memory, and where that stands in it.
 pub fn shown(screen: &[u8], p: u32, q: u32, memory: &[u8]) -> PointAnswer
     ensures { λ r. ⌜ readingOf r ≡ showing memorySize (now (screen .entry)) p q (now (memory .entry)) ⌝ }
     ensures { λ r. ⌜ r ≡ reader·answerOf (showing memorySize (now (screen .entry)) p q (now (memory .entry))) ⌝ }

@@ -16,7 +16,7 @@ enum-known-a-2 : tie.Need-enum-known-a-2
 enum-known-a-2 c = search needs
 
 returns : tie.Need-returns
-returns c = colour-shown _ _ _ _ (c .before .a .given .1) (c .before .before .before .number .ensures)
+returns c = colour-shown _ _ _ _ _ _ (c .before .a .given .1) (c .before .before .before .number .ensures)
 
 returns-2 : tie.Need-returns-2
 returns-2 c = colour-refused _ _ _ (c .before .a2 .given .1)
