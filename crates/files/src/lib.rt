@@ -1,4 +1,4 @@
-// What the programs share: the files that their arguments name, their buffers, and what they write. The contents of a file,
+// What the programs share: the files, words and numbers of their arguments, their buffers, and what they write. The contents of a file,
 // and whether it can be read or written, are the system's: a contract names them, and says what holds of them.
 ghost use mathlib.Core.Path.{_≡_};
 ghost use lib.ListN.{length, replicate};
