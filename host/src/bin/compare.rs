@@ -86,13 +86,38 @@ struct Seen {
     screens: [[u64; 2]; 4],
     /// Points before the memory's first dword, in its last one, and in the one behind it.
     dwords: [u64; 3],
-    /// Points that are accepted, by depth (1 to 16) and the highest bit's place (0 to 7).
-    places: [[u64; 8]; DEPTHS.len()],
-    /// Those of depth 8 in a byte of odd address.
-    odd: u64,
+    /// Points of compiled screens, and of values that no compiling made.
+    compiled: Places,
+    any: Places,
 }
 
 const DEPTHS: [u32; 5] = [1, 2, 4, 8, 16];
+
+/// Where points stand that are accepted.
+#[derive(Default)]
+struct Places {
+    /// By depth, in the order of `DEPTHS`, and by the highest bit's place, 0 to 7.
+    bits: [[u64; 8]; DEPTHS.len()],
+    /// At depth 8, in a byte of odd address.
+    odd: u64,
+}
+
+impl Places {
+    fn count(&mut self, depth: u32, point: Point) {
+        if let Point { number: 0, address, bit, .. } = point {
+            self.bits[depth.trailing_zeros() as usize][bit as usize] += 1;
+            self.odd += u64::from(depth == 8 && address % 2 == 1);
+        }
+    }
+
+    /// For each depth the places that its pixels have, from 7 down.
+    fn by_depth(&self) -> [Vec<u64>; DEPTHS.len()] {
+        std::array::from_fn(|i| {
+            let step = DEPTHS[i].min(8) as usize;
+            self.bits[i].iter().rev().step_by(step).copied().collect()
+        })
+    }
+}
 
 /// A difference, in words and with the input.
 type Checked = Result<(), String>;
@@ -377,20 +402,17 @@ impl Bench {
         let answer = chip.read_point[0](settings, p, q, memory);
         let theirs = chip.read_point[1](settings, p, q, memory);
         same("point", answer, theirs, &input)?;
-        let (Point { number, colour, address, bit }, depth) = (answer, settings.depth);
-        self.seen[chip.read][number as usize] += 1;
-        let seen = &mut self.chips[chip.index];
+        let Point { number, colour, address, bit } = answer;
         if number == 0 {
-            let there = colour_at(memory, depth, address, bit);
+            let there = colour_at(memory, settings.depth, address, bit);
             same("the bits where a point stands", Some(colour), there, &input)?;
-            seen.places[depth.trailing_zeros() as usize][bit as usize] += 1;
-            seen.odd += u64::from(depth == 8 && address % 2 == 1);
         } else {
             same("a refused point", answer, Point { number, ..Point::default() }, &input)?;
         }
+        self.seen[chip.read][number as usize] += 1;
         if let (0 | 25, Ok((dword, _))) = (number, reference::walk(settings, p, q)) {
             let past = chip.memory as i64 / 4;
-            let [before, last, behind] = &mut seen.dwords;
+            let [before, last, behind] = &mut self.chips[chip.index].dwords;
             *before += u64::from(dword < 0);
             *last += u64::from(dword == past - 1);
             *behind += u64::from(dword == past);
@@ -407,14 +429,16 @@ impl Bench {
         settings: Settings,
     ) -> Checked {
         let (width, height) = (settings.width, settings.height);
-        let mut read = |p: u32, q: u32| {
+        let mut read = |p: u32, q: u32| -> Checked {
             let input =
                 || format!("  {} {settings:?} ({p}, {q})\n{}", chip.name, drawing_text(drawing));
             let answer = self.read(chip, &settings, (p, q), input)?;
             let (p, q) = (p as usize, q as usize);
             let colour = sheet::shows(&drawing.screen, &self.third, p, q);
             let (address, bit) = sheet::stands(&drawing.screen, p, q);
-            same("the sheet's point", answer, Point { number: 0, colour, address, bit }, input)
+            same("the sheet's point", answer, Point { number: 0, colour, address, bit }, input)?;
+            self.chips[chip.index].compiled.count(settings.depth, answer);
+            Ok(())
         };
         if width * height <= 4096 {
             for q in 0..height {
@@ -629,12 +653,13 @@ impl Bench {
         let at = self.prepare_memory(rng, length);
         for _ in 0..16 {
             let (settings, p, q) = inputs::point(rng, chip.memory as u64);
-            self.read(chip, &settings, (p, q), || {
+            let answer = self.read(chip, &settings, (p, q), || {
                 let name = chip.name;
                 format!(
                     "  {name} {settings:?} ({p}, {q})\n  memory: {length} bytes, pool from {at}"
                 )
             })?;
+            self.chips[chip.index].any.count(settings.depth, answer);
         }
         Ok(())
     }
@@ -718,20 +743,17 @@ fn main() -> ExitCode {
     println!("{report}");
     let mut missed = !unseen.is_empty();
     for (chip, seen) in [NEWER, OLDER].iter().zip(&bench.chips) {
-        let Seen { lengths, screens, dwords, places, odd } = seen;
+        let Seen { lengths, screens, dwords, compiled, any } = seen;
         println!("{}: 26 for main and for the window {lengths:?}", chip.name);
         println!("  accepted by rotation, without and with the window {screens:?}");
         println!("  points before the first dword, in the last, behind it {dwords:?}");
-        let rest = lengths.iter().chain(screens.as_flattened()).chain(dwords);
-        missed |= rest.chain([odd]).any(|&n| n == 0);
-        for (depth, places) in DEPTHS.into_iter().zip(places) {
-            // The places that pixels of the depth have.
-            let step = depth.min(8) as usize;
-            let places: Vec<u64> = places.iter().rev().step_by(step).copied().collect();
-            println!("  points at depth {depth} by place, from 7 down {places:?}");
-            missed |= places.contains(&0);
+        missed |= lengths.iter().chain(screens.as_flattened()).chain(dwords).any(|&n| n == 0);
+        for (of, places) in [("compiled screens", compiled), ("any values", any)] {
+            let (bits, odd) = (places.by_depth(), places.odd);
+            println!("  points of {of} by depth, and by place from 7 down {bits:?}");
+            println!("    at depth 8 in a byte of odd address {odd}");
+            missed |= odd == 0 || bits.iter().any(|bits| bits.contains(&0));
         }
-        println!("  points at depth 8 in a byte of odd address {odd}");
     }
     if missed {
         println!("\nnot all seen; numbers {unseen:?}");
