@@ -94,15 +94,6 @@ fn load_list(older: bool, i: usize, list: &mut [u8]) -> Loaded
     files::load(i, list)
 }
 
-// Whether argument 1 is the word 13706.
-fn is_older() -> bool
-    ensures { λ r. ⌜ YesOrNo r ⌝ }
-{
-    let mut word = [0u8; 5];
-    let n = os::arg(1, &mut word);
-    check::same(&word[..n], b"13706")
-}
-
 // Which argument names the screen record: the one behind that word, or the first.
 fn screen_at(older: bool) -> usize
     ensures { λ r. ⌜ r ≡ cond older 2 1 ⌝ }
@@ -115,7 +106,7 @@ fn screen_at(older: bool) -> usize
 }
 
 fn main() {
-    let older = is_older();
+    let older = files::is_word(1, b"13706");
     let first = screen_at(older);
     let count = os::arg_count();
     if count < 3 || first + 3 < count {

@@ -8,6 +8,8 @@ use lib.ListN.{length}
 use lib.Seq.{sets}
 use Rattle.io.specs.Counts.{Counts}
 use Rattle.text.specs.Lines.{joined, wordOf}
+use Rattle.text.specs.Numbers.{numberOf}
+use Rattle.text.specs.declared.Number.{Number}
 use Rattle.files.specs.declared.Loaded.{Loaded}
 
 -- an answer of the system: yes or no
@@ -40,3 +42,8 @@ pub record Untouched (old new : List ℕ) (r : Loaded) : Type 0 where
 pub record LoadedMemory (old new : List ℕ) (r : Loaded) : Type 0 where
   pub within : Counts (r .n) new
   pub either : Untouched old new r ⊎ LoadedBytes old new r
+
+-- ---- the number that an argument's text means: which text it is, the system says
+pub record GivenNumber (r : Number) : Type 0 where
+  pub text : List ℕ
+  pub meant : r ≡ numberOf text

@@ -1,10 +1,11 @@
-// What the programs share: the files that their arguments name, their buffers, and what they write. The contents of a file,
+// What the programs share: the files, words and numbers of their arguments, their buffers, and what they write. The contents of a file,
 // and whether it can be read or written, are the system's: a contract names them, and says what holds of them.
 ghost use mathlib.Core.Path.{_≡_};
 ghost use lib.ListN.{length, replicate};
-ghost use Rattle.files.specs.System.{YesOrNo, LoadedBytes, LoadedWords, LoadedMemory};
+ghost use Rattle.files.specs.System.{YesOrNo, LoadedBytes, LoadedWords, LoadedMemory, GivenNumber};
 use libc::STDERR_FILENO;
 use libc::STDOUT_FILENO;
+use text::Number;
 
 // The most host words that a program takes.
 const MOST_WORDS: usize = 262144;
@@ -114,16 +115,20 @@ pub fn load(i: usize, buffer: &mut [u8]) -> Loaded
     load_path(&path[..n], buffer)
 }
 
+// Whether argument i is a word.
+pub fn is_word(i: usize, word: &[u8]) -> bool
+    ensures { λ r. ⌜ YesOrNo r ⌝ }
+{
+    let mut path = io::buffer();
+    let n = os::arg(i, &mut path);
+    check::same(&path[..n], word)
+}
+
 // Whether argument i is left out: there is none, or it is a single `-`.
 pub fn is_left_out(i: usize) -> bool
     ensures { λ r. ⌜ YesOrNo r ⌝ }
 {
-    if os::arg_count() <= i {
-        return true;
-    }
-    let mut path = io::buffer();
-    let n = os::arg(i, &mut path);
-    n == 1 && path[0] == b'-'
+    os::arg_count() <= i || is_word(i, b"-")
 }
 
 // Reads the host words of the file that argument i names, two bytes each; none where it is left out.
@@ -160,4 +165,13 @@ pub fn load_memory(i: usize, memory: &mut [u8]) -> Loaded
         return Loaded { ok: true, n };
     }
     load(i, memory)
+}
+
+// The number that argument i gives: none where it is left out or longer than a path.
+pub fn number(i: usize) -> Number
+    ensures { λ r. ⌜ GivenNumber r ⌝ }
+{
+    let mut path = io::buffer();
+    let n = os::arg(i, &mut path);
+    text_lines::number_of(&path[..n])
 }

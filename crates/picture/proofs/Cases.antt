@@ -1,9 +1,12 @@
--- Heads and pixels, computed.
+-- Heads, pixels and the line of a point, computed.
 use mathlib.Core.Path.{_≡_, refl}
 use mathlib.Core.List.{[], _∷_}
 use Rattle.reader.specs.declared.Display.{Display}
+use Rattle.reader.specs.declared.PointAnswer.the-variants.{Shown, Refused}
 use Rattle.text.specs.Text.{letters, lastDigits, decimal}
-use Rattle.picture.specs.Picture.{pictureKind, pictureHead, pixelSize, pixelBytes, pixelsIn}
+use Rattle.text.specs.Refusal.{reason, refusalLine}
+use Rattle.text.specs.Lines.{pointLine}
+use Rattle.picture.specs.Picture.{pictureKind, pictureHead, pixelSize, pixelBytes, pixelsIn, answerLine}
 
 -- S1's panel, and the same at depth 16
 grey : Display
@@ -41,3 +44,12 @@ whole-line = refl
 cut-line : pixelsIn colours 10 ≡ 3
 unfolding colours pixelSize
 cut-line = refl
+
+-- a point that is shown, and one outside the panel
+shown-line : answerLine (Shown 15 38399 3) ≡ letters "colour 15 address 38399 bit 3\n"
+unfolding answerLine pointLine decimal lastDigits
+shown-line = refl
+
+refused-line : answerLine (Refused 24) ≡ letters "refused 24 0: panel point outside the panel\n"
+unfolding answerLine refusalLine reason decimal lastDigits
+refused-line = refl

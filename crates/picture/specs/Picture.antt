@@ -1,4 +1,5 @@
--- The panel as a picture, in the portable formats: one byte for a point at depths 1 to 8, red, green and blue at depth 16.
+-- The panel as a picture, in the portable formats: one byte for a point at depths 1 to 8, red, green and blue at depth 16. And one point
+-- of it as a line of text.
 use Prim.Native.Nat.{ℕ, _+_, _-_, _*_, _/_, _%_, _^_, min}
 use mathlib.Core.List.{List, [], _∷_, _++_}
 use mathlib.Core.Bool.{cond}
@@ -7,7 +8,11 @@ use Rattle.screen.specs.Screen.{memorySize}
 use Rattle.screen.specs.declared.ScreenValues.{ScreenValues}
 use Rattle.reader.specs.Read.{reading}
 use Rattle.reader.specs.declared.Display.{Display}
+use Rattle.reader.specs.declared.PointAnswer.{PointAnswer}
+use Rattle.reader.specs.declared.PointAnswer.the-variants.{Shown, Refused}
 use Rattle.text.specs.Text.{letters, decimal}
+use Rattle.text.specs.Refusal.{refusalLine}
+use Rattle.text.specs.Lines.{pointLine}
 
 -- the highest value in the picture
 abbrev pub highest : ℕ → ℕ
@@ -46,3 +51,8 @@ pointBytes d values q memory p = pixelBytes (d .depth) (reading memorySize d val
 -- points of a line of the panel that have room
 abbrev pub pixelsIn : Display → ℕ → ℕ
 pixelsIn d room = min (d .width) (room / pixelSize (d .depth))
+
+-- the line of the point reader's answer: the point's, or its refusal's, whose place is 0
+unfoldable pub answerLine : PointAnswer → List ℕ
+answerLine (Shown colour address bit) = pointLine colour address bit
+answerLine (Refused n) = refusalLine n 0

@@ -1,1 +1,1 @@
-// The panel as a picture: its head and its lines.
+// The panel as a picture, and the line of one of its points.

@@ -1,13 +1,14 @@
-// The panel as a picture: its head, and a line of its points.
+// The panel as a picture: its head, and a line of its points. And the line of text that says what one point shows.
 ghost use mathlib.Core.Path.{_≡_};
 ghost use Prim.Native.Nat.{_+_, _*_, _%_};
 ghost use lib.ListN.{length};
 ghost use lib.Seq.{sets};
 ghost use Rattle.io.specs.Counts.{Counts};
-ghost use Rattle.reader.specs.Read.{readingOf};
+ghost use Rattle.screen.specs.Screen.{memorySize};
+ghost use Rattle.reader.specs.Read.{reading, readingOf, answerOf};
 ghost use Rattle.text.specs.Lines.{joined};
 ghost use Rattle.text.specs.Text.{Stored};
-ghost use Rattle.picture.specs.Picture.{highest, pictureKind, pictureHead, pixelSize, fromFive, fromSix, pixelBytes, pointBytes, pixelsIn};
+ghost use Rattle.picture.specs.Picture.{highest, pictureKind, pictureHead, pixelSize, fromFive, fromSix, pixelBytes, pointBytes, pixelsIn, answerLine};
 use reader::Display;
 use reader::PointAnswer;
 use screen::ScreenValues;
@@ -58,7 +59,7 @@ fn colour_of(a: PointAnswer) -> u16
     ensures { λ r. ⌜ r ≡ readingOf a .colour ⌝ }
 {
     match a {
-        PointAnswer::Colour(c) => c,
+        PointAnswer::Shown(c, address, bit) => c,
         PointAnswer::Refused(n) => 0,
     }
 }
@@ -110,4 +111,24 @@ pub fn put_points(d: Display, values: ScreenValues, q: u32, memory: &[u8], line:
         i += 1;
     }
     at
+}
+
+// The line of panel point (p, q), or of its refusal, cut where there is no room; answers its bytes.
+pub fn put_answer(
+    d: Display,
+    values: ScreenValues,
+    p: u32,
+    q: u32,
+    memory: &[u8],
+    line: &mut [u8],
+) -> usize
+    ensures { λ r. ⌜ Stored (now (line .entry)) 0 (answerLine (answerOf (reading memorySize d values p q (now (memory .entry))))) (now (line .exit)) r ⌝ }
+{
+    let answer = reader_code::read_point(d, values, p, q, memory);
+    match answer {
+        PointAnswer::Shown(colour, address, bit) => {
+            text_code::put_point(colour as u64, address, bit as u64, line)
+        }
+        PointAnswer::Refused(n) => text_code::put_refusal(n as u64, 0, line),
+    }
 }

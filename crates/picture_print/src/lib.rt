@@ -1,4 +1,4 @@
-// Writes a picture to standard output.
+// Writes a picture, or what one point shows, to standard output.
 ghost use Rattle.files.specs.System.{YesOrNo};
 use reader::Display;
 use screen::ScreenValues;
@@ -33,4 +33,11 @@ pub fn print_picture(d: Display, values: ScreenValues, memory: &[u8]) {
         }
         q += 1;
     }
+}
+
+// The line of panel point (p, q), or of its refusal, at most 128 bytes.
+pub fn print_point(d: Display, values: ScreenValues, p: u32, q: u32, memory: &[u8]) {
+    let mut line = [0u8; 128];
+    let n = picture_code::put_answer(d, values, p, q, memory, &mut line);
+    files::print(&line[..n]);
 }

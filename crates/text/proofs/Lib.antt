@@ -3,3 +3,4 @@ pub mod Cases
 pub mod Stored
 pub mod Joined
 pub mod LineCases
+pub mod Numbers

@@ -1,10 +1,13 @@
--- Lines, bytes and words, computed.
+-- Lines, bytes, words and numbers, computed.
 use Prim.Native.Nat.{ℕ}
 use mathlib.Core.Path.{_≡_, refl}
+use mathlib.Core.Bool.{true, false}
 use mathlib.Core.List.{List, [], _∷_}
 use Rattle.record.specs.Record.{recordAt}
-use Rattle.text.specs.Text.{letters}
-use Rattle.text.specs.Lines.{joined, recordLine, streamLine, hexByte, wordOf}
+use Rattle.text.specs.Text.{letters, lastDigits, decimal}
+use Rattle.text.specs.Lines.{joined, recordLine, streamLine, pointLine, hexByte, wordOf}
+use Rattle.text.specs.Numbers.{digitsBehind, numberOf}
+use Rattle.text.specs.declared.Number.{Number}
 
 -- two records of a fill
 stream : List ℕ
@@ -21,3 +24,37 @@ bytes = refl
 words : joined (wordOf stream) 3 ≡ 0x8010 ∷ 0 ∷ 0x190A ∷ []
 unfolding stream joined wordOf
 words = refl
+
+-- ---- the line of a point
+point : pointLine 31 1027 3 ≡ letters "colour 31 address 1027 bit 3\n"
+unfolding pointLine decimal lastDigits
+point = refl
+
+-- colour 31, letter by letter
+point-letters : pointLine 31 0 7 ≡ 99 ∷ 111 ∷ 108 ∷ 111 ∷ 117 ∷ 114 ∷ 32 ∷ 51 ∷ 49 ∷ 32 ∷ 97 ∷ 100 ∷ 100 ∷ 114 ∷ 101 ∷ 115 ∷ 115 ∷ 32 ∷ 48 ∷ 32 ∷ 98 ∷ 105 ∷ 116 ∷ 32 ∷ 55 ∷ 10 ∷ []
+unfolding pointLine decimal lastDigits
+point-letters = refl
+
+-- ---- numbers
+number : ℕ → Number
+number n = record { ok = true; n = n }
+
+none : Number
+none = record { ok = false; n = 0 }
+
+taken : (numberOf (letters "1023") ≡ number 1023)
+    × (numberOf (letters "0") ≡ number 0)
+    × (numberOf (letters "007") ≡ number 7)
+    × (numberOf (letters "999999999") ≡ number 999999999)
+unfolding number numberOf digitsBehind
+taken = (refl, refl, refl, refl)
+
+-- an empty text, ten digits, a letter, a sign, and the letters before 0 and behind 9
+not-taken : (numberOf (letters "") ≡ none)
+    × (numberOf (letters "0000000000") ≡ none)
+    × (numberOf (letters "1x") ≡ none)
+    × (numberOf (letters "-1") ≡ none)
+    × (numberOf (letters "/") ≡ none)
+    × (numberOf (letters "1:") ≡ none)
+unfolding none numberOf digitsBehind
+not-taken = (refl, refl, refl, refl, refl, refl)

@@ -1,3 +1,4 @@
 pub mod Text
 pub mod Refusal
 pub mod Lines
+pub mod Numbers

@@ -1,10 +1,11 @@
-// The line of a refusal. A text that has no room in its buffer is cut.
+// The lines of a refusal and of a panel point. A text that has no room in its buffer is cut.
 mod reasons;
 
 ghost use mathlib.Core.Path.{_≡_};
 ghost use mathlib.Core.List.{_++_};
 ghost use Rattle.text.specs.Text.{letters, decimal, Stored};
 ghost use Rattle.text.specs.Refusal.{reason, refusalLine};
+ghost use Rattle.text.specs.Lines.{pointLine};
 use reasons::REASONS;
 use reasons::STARTS;
 
@@ -57,4 +58,17 @@ pub fn put_refusal(number: u64, place: u64, text: &mut [u8]) -> usize
     let at = put_decimal(text, at, place);
     let at = put(text, at, b": ");
     put_reason(text, at, number)
+}
+
+// The line of a panel point; answers its bytes.
+pub fn put_point(colour: u64, address: u64, bit: u64, text: &mut [u8]) -> usize
+    ensures { λ r. ⌜ Stored (now (text .entry)) 0 (pointLine colour address bit) (now (text .exit)) r ⌝ }
+{
+    let at = put(text, 0, b"colour ");
+    let at = put_decimal(text, at, colour);
+    let at = put(text, at, b" address ");
+    let at = put_decimal(text, at, address);
+    let at = put(text, at, b" bit ");
+    let at = put_decimal(text, at, bit);
+    put(text, at, b"\n")
 }

@@ -1,4 +1,4 @@
-// What the programs write and read besides: a stream as lines of text, bytes in hexadecimal, and host words from bytes.
+// What the programs write and read besides: a stream as lines of text, bytes in hexadecimal, host words from bytes, and numbers.
 ghost use mathlib.Core.Path.{_≡_};
 ghost use Prim.Native.Nat.{_+_, _*_, _/_, _%_, min};
 ghost use lib.ListN.{length};
@@ -7,7 +7,9 @@ ghost use Rattle.io.specs.Counts.{Counts};
 ghost use Rattle.io.specs.Digits.{digits, glyph};
 ghost use Rattle.text.specs.Text.{Stored};
 ghost use Rattle.text.specs.Lines.{joined, recordLine, streamLine, hexByte, wordOf};
+ghost use Rattle.text.specs.Numbers.{numberOf};
 use record::Record;
+use text::Number;
 use text_code::put;
 
 // The letter of a number's last hexadecimal digit.
@@ -99,4 +101,24 @@ pub fn words_of(bytes: &[u8], words: &mut [u16]) -> usize
         i += 1;
     }
     n
+}
+
+// The number of one to nine decimal digits.
+pub fn number_of(text: &[u8]) -> Number
+    ensures { λ r. ⌜ r ≡ numberOf (now (text .entry)) ⌝ }
+{
+    if !((1 <= text.len()) & (text.len() <= 9)) {
+        return Number { ok: false, n: 0 };
+    }
+    let mut n: u32 = 0;
+    let mut i = 0;
+    while i < text.len() {
+        let c = record_code::wide(text[i]);
+        if !((48 <= c) & (c <= 57)) {
+            return Number { ok: false, n: 0 };
+        }
+        n = 10 * n + (c - 48);
+        i += 1;
+    }
+    Number { ok: true, n }
 }

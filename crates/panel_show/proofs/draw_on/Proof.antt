@@ -1,6 +1,6 @@
 use borrow.Author.Needs.{needs}
-use Rattle.panel.proofs.draw_on.Statement.{statement}
-use Rattle.panel.proofs.draw_on.Tie as tie
+use Rattle.panel_show.proofs.draw_on.Statement.{statement}
+use Rattle.panel_show.proofs.draw_on.Tie as tie
 
 stream-requires : tie.Need-stream-requires
 stream-requires c κs = search needs

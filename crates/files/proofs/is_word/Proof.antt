@@ -1,7 +1,10 @@
 use Rattle.files.proofs.System.{yes-or-no}
 use borrow.Author.Needs.{needs}
-use Rattle.compile.proofs.is_older.Statement.{statement}
-use Rattle.compile.proofs.is_older.Tie as tie
+use Rattle.files.proofs.is_word.Statement.{statement}
+use Rattle.files.proofs.is_word.Tie as tie
+
+buffer-requires : tie.Need-buffer-requires
+buffer-requires c κs = search needs
 
 slice-aggregate-arg : tie.Need-slice-aggregate-arg
 slice-aggregate-arg c = search needs
@@ -9,14 +12,11 @@ slice-aggregate-arg c = search needs
 arg-requires : tie.Need-arg-requires
 arg-requires c κs = search needs
 
-array-share-prefix-word : tie.Need-array-share-prefix-word
-array-share-prefix-word c = search needs
+array-share-prefix-path : tie.Need-array-share-prefix-path
+array-share-prefix-path c = search needs
 
 slice-aggregate-same : tie.Need-slice-aggregate-same
 slice-aggregate-same c = search needs
-
-slice-aggregate-same-2 : tie.Need-slice-aggregate-same-2
-slice-aggregate-same-2 c = search needs
 
 same-requires : tie.Need-same-requires
 same-requires c κs = search needs
@@ -24,14 +24,14 @@ same-requires c κs = search needs
 returns : tie.Need-returns
 returns c = yes-or-no _
 
-pub is-older-spec : {M : Type 1} → statement M
-is-older-spec =
+pub is-word-spec : {M : Type 1} → statement M
+is-word-spec =
     tie.close
     (tie.spec
+    buffer-requires
     slice-aggregate-arg
     arg-requires
-    array-share-prefix-word
+    array-share-prefix-path
     slice-aggregate-same
-    slice-aggregate-same-2
     same-requires
     returns)

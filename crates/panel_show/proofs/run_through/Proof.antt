@@ -1,8 +1,8 @@
 use mathlib.Core.Path.{_∙_}
 use Rattle.unit.proofs.Draw.{nothing-drawn}
 use borrow.Author.Needs.{needs}
-use Rattle.panel.proofs.run_through.Statement.{statement}
-use Rattle.panel.proofs.run_through.Tie as tie
+use Rattle.panel_show.proofs.run_through.Statement.{statement}
+use Rattle.panel_show.proofs.run_through.Tie as tie
 
 draw-on-requires : tie.Need-draw-on-requires
 draw-on-requires c κs = search needs
