@@ -1,4 +1,4 @@
-/* Compiles the fill of 01's case B1, plays it, and prints what two panel points show.
+/* Compiles the fill of 01's case B1, plays it, and prints what two panel points show and where in memory that stands.
  *
  *   rt staticlib s1d
  *   gcc -O2 -Iinclude examples/draw.c target/staticlib/libs1d.a -o target/draw && target/draw
@@ -15,8 +15,9 @@ static const uint8_t list[S1D_COMMAND_LENGTH] = {S1D_FILL, S1D_MAIN, 0, 0, 10, 0
 static uint8_t stream[S1D_STREAM_LENGTH(1, 0)];
 static uint8_t memory[S1D_MEMORY_LENGTH];
 
-static unsigned colour(const s1d_compiled *c, const s1d_played *d, uint32_t p, uint32_t q) {
-    return s1d_read_point(c->depth, c->rotation, c->flag, 320, 240, d->values, p, q, memory, sizeof memory).colour;
+static void show(const s1d_compiled *c, const s1d_played *d, uint32_t p, uint32_t q) {
+    s1d_point at = s1d_read_point(c->depth, c->rotation, c->flag, 320, 240, d->values, p, q, memory, sizeof memory);
+    printf("(%u, %u) shows %u: byte %Xh from bit %u down\n", p, q, at.colour, at.address, at.bit);
 }
 
 int main(void) {
@@ -32,6 +33,7 @@ int main(void) {
         return 1;
     }
     printf("%llu bytes of stream, line offset %u\n", (unsigned long long)c.length, d.values[1]);
-    printf("(9, 20) shows %u, (10, 20) shows %u\n", colour(&c, &d, 9, 20), colour(&c, &d, 10, 20));
+    show(&c, &d, 9, 20);
+    show(&c, &d, 10, 20);
     return 0;
 }
