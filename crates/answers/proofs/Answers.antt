@@ -14,8 +14,9 @@ use Rattle.compiler.specs.declared.Compiled.the-variants as Compiled
 use Rattle.chip.specs.Play.{playingOf}
 use Rattle.chip.specs.declared.Played.{Played}
 use Rattle.chip.specs.declared.Played.the-variants as Played
-use Rattle.reader.specs.Read.{displayOf, reading, readingOf}
+use Rattle.reader.specs.Read.{displayOf, readingOf, looking}
 use Rattle.reader.specs.declared.Display.{Display}
+use Rattle.reader.specs.declared.Look.{Look}
 use Rattle.reader.specs.declared.PointAnswer.{PointAnswer}
 use Rattle.reader.specs.declared.PointAnswer.the-variants as PointAnswer
 use Rattle.unit.specs.Draw.{drawingOf}
@@ -87,10 +88,9 @@ module _ (a : PointAnswer) where
   unfolding readingOf
   point-narrow k at place e f = subst (λ (x : PointAnswer). readingOf x .address < 2 ^ 32) e f
 
--- an answer read from values that are w
-pub reading-with : (a : PointAnswer) (m : ℕ) (d : Display) (v w : ScreenValues) (p q : ℕ) (memory : List ℕ)
-    → readingOf a ≡ reading m d v p q memory → v ≡ w → readingOf a ≡ reading m d w p q memory
-reading-with a m d v w p q memory f h = f ∙ ap (λ (x : ScreenValues). reading m d x p q memory) h
+-- a look by values that are w
+pub looking-with : (at : Look) (m : ℕ) (d : Display) (v w : ScreenValues) (p q n : ℕ) → at ≡ looking m d v p q n → v ≡ w → at ≡ looking m d w p q n
+looking-with at m d v w p q n f h = f ∙ ap (λ (x : ScreenValues). looking m d x p q n) h
 
 -- ---- drawing
 module _ (a : Drawn) where

@@ -46,7 +46,7 @@ pub last-dword : (memory : List ℕ) → length memory ≡ 81920
     → (first memory 20479 .number ≡ 0) × (first memory 20479 .address ≡ 81916) × (first memory 20480 .number ≡ 25)
 unfolding firstOf isDepth panelOk viewWidth wholeDwords valuesFit walk inWindowBy cornerP cornerQ placeOf readRows readAt
 last-dword memory e =
-    let last : firstOf (readRows olderMemory panel (from 20479) 0 0 memory) ≡ 0 = rw e refl in (
+    let last : firstOf (readRows olderMemory panel (from 20479) 0 0 (length memory)) ≡ 0 = rw e refl in (
       number-is olderMemory panel (from 20479) 0 0 memory ∙ last,
       ap (λ (r : Reading). r .address) (reading-is olderMemory panel (from 20479) 0 0 memory last),
       number-is olderMemory panel (from 20480) 0 0 memory ∙ rw e refl,

@@ -33,7 +33,7 @@ point-passes : (w h p q : ℕ) → p < w → q < h → (ltb p w && ltb q h) ≡ 
 point-passes w h p q a b = rw (lt-ltb p w a) (lt-ltb q h b)
 
 module _ (m : ℕ) (s : Screen) (f : firstOf (fieldRows m s) ≡ 0) (on : s .flag ≤ 1) (h : m ≤ 262144) (memory : List ℕ) (len : length memory ≡ m) (p q : ℕ) (pw : p < s .width) (qh : q < s .height) where
-  pub not-refused : firstOf (readRows m (displayOf s) (valuesOf s) p q memory) ≡ 0
+  pub not-refused : firstOf (readRows m (displayOf s) (valuesOf s) p q (length memory)) ≡ 0
   unfolding readRows displayOf fieldRows mainImage AllPass
   not-refused =
       let t = none (fieldRows m s) (field-numbered m s) f in
@@ -42,7 +42,7 @@ module _ (m : ℕ) (s : Screen) (f : firstOf (fieldRows m s) ≡ 0) (on : s .fla
       let fit = ap not (values-pass m s h f on) in
       let point = ap not (point-passes (s .width) (s .height) p q pw qh) in
       let dword = ap not (inside-passes m (s .depth) _ _ (demand-2 m s f p q pw qh)) in
-      none-back (readRows m (displayOf s) (valuesOf s) p q memory)
+      none-back (readRows m (displayOf s) (valuesOf s) p q (length memory))
       (length-is, (flag-is, (t .0, (t .1 .0, (t .1 .1 .0, (t .1 .1 .1 .0, (fit, (point, (dword, tt)))))))))
 
   -- the reader gives address, bit and colour of the bits shown there

@@ -9,6 +9,12 @@ pub struct Display {
     pub height: u32,
 }
 
+// Where the reader looks: the address of the pixel's byte, and the place of its highest bit there; or a refusal number.
+pub enum Look {
+    At(u64, u32),
+    Nowhere(u32),
+}
+
 // The pixel's colour, its byte's address, and the place of its highest bit in that byte; or a refusal number.
 pub enum PointAnswer {
     Shown(u16, u64, u32),

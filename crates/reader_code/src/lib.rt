@@ -5,8 +5,9 @@ ghost use lib.ListN.{length, take};
 ghost use Rattle.record.specs.Checks.{firstOf};
 ghost use Rattle.screen.specs.Screen.{memorySize};
 ghost use Rattle.screen.specs.Fields.{valuesFit};
-ghost use Rattle.reader.specs.Read.{displayOf, readRows, reading, readingOf, answerOf};
+ghost use Rattle.reader.specs.Read.{displayOf, readRows, reading, readingOf, answerOf, looking, seen, Seeable};
 use reader::Display;
+use reader::Look;
 use reader::PointAnswer;
 use screen::Screen;
 use screen::ScreenValues;
@@ -41,12 +42,12 @@ pub fn display_of(s: Screen) -> Display
 const GIVEN_CHECKS: [u32; 8] = [18, 1, 2, 3, 4, 5, 21, 24];
 
 // The first of these that fails; 0 for none.
-fn first_fault(size: u64, d: Display, values: ScreenValues, p: u32, q: u32, memory: &[u8]) -> u32
-    ensures { λ r. ⌜ r ≡ firstOf (take 8 (readRows size d values p q (now (memory .entry)))) ⌝ }
+fn first_fault(size: u64, d: Display, values: ScreenValues, p: u32, q: u32, lent: u64) -> u32
+    ensures { λ r. ⌜ r ≡ firstOf (take 8 (readRows size d values p q lent)) ⌝ }
 {
     let view_width = screen_code::view_width(d.rotation, d.width, d.height);
     let fails = [
-        memory.len() as u64 != size,
+        lent != size,
         1 < d.flag,
         !pixel_code::is_depth(d.depth),
         3 < d.rotation,
@@ -56,6 +57,40 @@ fn first_fault(size: u64, d: Display, values: ScreenValues, p: u32, q: u32, memo
         !((p < d.width) & (q < d.height)),
     ];
     record_code::first_of(&GIVEN_CHECKS, &fails)
+}
+
+// Where the reader looks for panel point (p, q) in a memory of so many bytes, of which so many are lent; or the first refusal number.
+pub fn look_for(size: u64, d: Display, values: ScreenValues, p: u32, q: u32, lent: u64) -> Look
+    ensures { λ r. ⌜ r ≡ looking size d values p q lent ⌝ }
+{
+    let n = first_fault(size, d, values, p, q, lent);
+    if n != 0 {
+        return Look::Nowhere(n);
+    }
+    let w = view_code::place_of(d.depth, d.rotation, d.flag, values, p, q);
+    let dword = record_code::minus(w.up, w.down);
+    if !((w.down <= w.up) & (dword < size / 4)) {
+        return Look::Nowhere(25);
+    }
+    let i = w.pixel as u32;
+    Look::At(
+        pixel_code::pixel_byte(d.depth, dword, i),
+        pixel_code::pixel_bit(d.depth, i),
+    )
+}
+
+// What the memory shows there.
+pub fn see(depth: u32, memory: &[u8], at: Look) -> PointAnswer
+    requires { ⌜ Seeable depth (now memory) at ⌝ }
+    ensures { λ r. ⌜ r ≡ seen depth (now (memory .entry)) at ⌝ }
+{
+    match at {
+        Look::Nowhere(n) => PointAnswer::Refused(n),
+        Look::At(address, bit) => {
+            let colour = pixel_code::stored_pixel(depth, memory, address as usize, bit);
+            PointAnswer::Shown(colour, address, bit)
+        }
+    }
 }
 
 // What panel point (p, q) shows in a memory of so many bytes, its colour read where the answer says that it stands; or the first refusal
@@ -71,20 +106,8 @@ pub fn read_point_in(
     ensures { λ r. ⌜ readingOf r ≡ reading size d values p q (now (memory .entry)) ⌝ }
     ensures { λ r. ⌜ r ≡ answerOf (reading size d values p q (now (memory .entry))) ⌝ }
 {
-    let n = first_fault(size, d, values, p, q, memory);
-    if n != 0 {
-        return PointAnswer::Refused(n);
-    }
-    let w = view_code::place_of(d.depth, d.rotation, d.flag, values, p, q);
-    let dword = record_code::minus(w.up, w.down);
-    if !((w.down <= w.up) & (dword < size / 4)) {
-        return PointAnswer::Refused(25);
-    }
-    let i = w.pixel as u32;
-    let address = pixel_code::pixel_byte(d.depth, dword, i);
-    let bit = pixel_code::pixel_bit(d.depth, i);
-    let colour = pixel_code::stored_pixel(d.depth, memory, address as usize, bit);
-    PointAnswer::Shown(colour, address, bit)
+    let at = look_for(size, d, values, p, q, memory.len() as u64);
+    see(d.depth, memory, at)
 }
 
 // The same in the S1D13A05's memory.

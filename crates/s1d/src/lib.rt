@@ -6,7 +6,7 @@ ghost use Rattle.command.specs.Task.{task};
 ghost use Rattle.screen.specs.Values.{valuesWith};
 ghost use Rattle.compiler.specs.Compile.{compiling, bufferAfter};
 ghost use Rattle.chip.specs.Play.{playing, played};
-ghost use Rattle.reader.specs.Read.{reading, readingOf};
+ghost use Rattle.reader.specs.Read.{reading, looking};
 ghost use Rattle.unit.specs.Draw.{drawing, streamDrawn, memoryDrawn};
 ghost use Rattle.serial.specs.State.{newPlayer};
 ghost use Rattle.serial.specs.Serial.{feeding, endedPlayer, endAnswer, answerOf};
@@ -18,7 +18,7 @@ use answers::S1dDrawn;
 use answers::S1dPoint;
 use answers::S1dValues;
 use reader::Display;
-use reader::PointAnswer;
+use reader::Look;
 use serial::Answer;
 use serial::Player;
 
@@ -47,9 +47,9 @@ pub extern "C" fn s1d_play(stream: &[u8], memory: &mut [u8]) -> Answer
     answers_code::played_of(answer)
 }
 
-// What panel point (p, q) shows in a memory of so many bytes, for both chips. The point reader, called from here alone, is inlined; the
-// answer becomes a struct of C where it is given back, field by field.
-fn point_in(
+// Where the point reader looks for panel point (p, q), in a memory of so many bytes of which so many are lent, for both chips. It is lent no
+// memory, since a pointer and a length that come from C are slow to hand on.
+fn look_in(
     depth: u32,
     rotation: u32,
     flag: u32,
@@ -58,10 +58,10 @@ fn point_in(
     values: &[u32; 6],
     p: u32,
     q: u32,
-    memory: &[u8],
+    lent: u64,
     size: u64,
-) -> PointAnswer
-    ensures { λ r. ⌜ readingOf r ≡ reading size (displayWith depth rotation flag width height) (valuesWith (now (values .entry))) p q (now (memory .entry)) ⌝ }
+) -> Look
+    ensures { λ r. ⌜ r ≡ looking size (displayWith depth rotation flag width height) (valuesWith (now (values .entry))) p q lent ⌝ }
 {
     let d = Display {
         depth,
@@ -71,7 +71,7 @@ fn point_in(
         height,
     };
     let v = screen_values::values_given(*values);
-    reader_code::read_point_in(size, d, v, p, q, memory)
+    reader_code::look_for(size, d, v, p, q, lent)
 }
 
 // What panel point (p, q) shows, and where that stands in memory.
@@ -89,7 +89,7 @@ pub extern "C" fn s1d_read_point(
 ) -> S1dPoint
     ensures { λ r. ⌜ r ≡ pointOf (reading memorySize (displayWith depth rotation flag width height) (valuesWith (now (values .entry))) p q (now (memory .entry))) ⌝ }
 {
-    let answer = point_in(
+    let at = look_in(
         depth,
         rotation,
         flag,
@@ -98,10 +98,10 @@ pub extern "C" fn s1d_read_point(
         values,
         p,
         q,
-        memory,
+        memory.len() as u64,
         262144,
     );
-    answers_code::point_of(answer)
+    answers_code::point_of(reader_code::see(depth, memory, at))
 }
 
 // Compiles, then plays the stream.
@@ -190,7 +190,7 @@ pub extern "C" fn s1d06_read_point(
 ) -> S1dPoint
     ensures { λ r. ⌜ r ≡ pointOf (reading olderMemory (displayWith depth rotation flag width height) (valuesWith (now (values .entry))) p q (now (memory .entry))) ⌝ }
 {
-    let older = point_in(
+    let older = look_in(
         depth,
         rotation,
         flag,
@@ -199,8 +199,8 @@ pub extern "C" fn s1d06_read_point(
         values,
         p,
         q,
-        memory,
+        memory.len() as u64,
         81920,
     );
-    answers_code::point_of(older)
+    answers_code::point_of(reader_code::see(depth, memory, older))
 }

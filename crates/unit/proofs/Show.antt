@@ -59,7 +59,7 @@ module _ (bytes : List ℕ) (p q : ℕ) (memory : List ℕ) where
       passes x e = sized x (e ∙ sym (second-part (screenRows memorySize bytes) _ (none (screenRows memorySize bytes) (screen-numbered memorySize bytes) ok)))
 
       -- the reader's checks up to the panel's pass
-      reader-24 : (ltb p (s .width) && ltb q (s .height)) ≡ false → 24 ≡ firstOf (readRows memorySize (displayOf s) (valuesOf s) p q memory)
+      reader-24 : (ltb p (s .width) && ltb q (s .height)) ≡ false → 24 ≡ firstOf (readRows memorySize (displayOf s) (valuesOf s) p q (length memory))
       unfolding readRows displayOf fieldRows mainImage AllPass
       reader-24 out =
           let t = none (fieldRows memorySize s) (field-numbered memorySize s) fields in

@@ -76,7 +76,7 @@ room-placeless : (t : Task) (room : ℕ) → Placeless (roomRows t room)
 unfolding Placeless roomRows
 room-placeless t room = (refl, tt)
 
-read-placeless : (m : ℕ) (d : Display) (v : ScreenValues) (p q : ℕ) (memory : List ℕ) → Placeless (readRows m d v p q memory)
+read-placeless : (m : ℕ) (d : Display) (v : ScreenValues) (p q : ℕ) (memory : List ℕ) → Placeless (readRows m d v p q (length memory))
 unfolding Placeless readRows
 read-placeless m d v p q memory = (refl, (refl, (refl, (refl, (refl, (refl, (refl, (refl, (refl, tt)))))))))
 
@@ -262,8 +262,8 @@ module _ (m : ℕ) (stream memory : List ℕ) where
 
 -- ---- the point reader
 pub read-decided : (m : ℕ) (d : Display) (v : ScreenValues) (p q : ℕ) (memory : List ℕ)
-    → Decided (reading m d v p q memory .number) (reading m d v p q memory .place) (readRows m d v p q memory)
+    → Decided (reading m d v p q memory .number) (reading m d v p q memory .place) (readRows m d v p q (length memory))
 read-decided m d v p q memory =
     decided (read·number-is m d v p q memory)
-    (read·place-is m d v p q memory ∙ sym (placeless (readRows m d v p q memory) (read-placeless m d v p q memory)))
-    (read·numbered m d v p q memory)
+    (read·place-is m d v p q memory ∙ sym (placeless (readRows m d v p q (length memory)) (read-placeless m d v p q memory)))
+    (read·numbered m d v p q (length memory))

@@ -42,7 +42,7 @@ pub record Demand1 : Type 0 where
       → let r = playing memorySize stream memory in Decided (r .number) (r .place) (playRows memorySize stream memory)
   pub memory-kept : (stream memory : List ℕ) → 0 < playing memorySize stream memory .number → played memorySize stream memory ≡ memory
   pub reads : (d : Display) (v : ScreenValues) (p q : ℕ) (memory : List ℕ)
-      → let r = reading memorySize d v p q memory in Decided (r .number) (r .place) (readRows memorySize d v p q memory)
+      → let r = reading memorySize d v p q memory in Decided (r .number) (r .place) (readRows memorySize d v p q (length memory))
 
 -- Demand 2: "Read back through the chip's walk, each panel point shows the one image pixel that the rotation names, inside
 -- memory, the small window over the main", from the register values of an accepted screen record
@@ -104,7 +104,7 @@ pub record OlderDemand1 : Type 0 where
   pub compiled : (t : Task) (room : ℕ) → let r = olderCompiling t room in Decided (r .number) (r .place) (olderRows t room)
   pub stream-kept : (t : Task) (old : List ℕ) → 0 < olderCompiling t (length old) .number → olderBuffer t old ≡ old
   pub reads : (d : Display) (v : ScreenValues) (p q : ℕ) (memory : List ℕ)
-      → let r = reading olderMemory d v p q memory in Decided (r .number) (r .place) (readRows olderMemory d v p q memory)
+      → let r = reading olderMemory d v p q memory in Decided (r .number) (r .place) (readRows olderMemory d v p q (length memory))
 
 -- the byte writes: the records of the stream in the length that compiling gave
 abbrev pub writesGiven : Task → List ℕ → List Record

@@ -1,101 +1,16 @@
-use Prim.Native.Nat.{_/_, _<_}
-use mathlib.Core.Path.{_≡_, sym, _∙_}
-use native.Mathlib.Nat.{div-le-self}
-use native.Mathlib.Omega.{arith}
-use lib.ListN.{take}
-use lib.Dec.{leb}
-use denote.Ref.{now}
 use borrow.Author.Needs.{needs}
-use borrow.Author.Tests.{ltb-true, not-false}
-use Rattle.record.specs.Checks.{firstOf}
-use Rattle.record.proofs.Choice.{and-right}
-use Rattle.pixel.specs.Depth.{perDword}
-use Rattle.pixel.proofs.Stands.{bit-room, byte-room}
-use Rattle.reader.specs.Read.{readRows}
-use Rattle.reader.proofs.Answer.{Given, answered, given-refused, given, low-pixel, outside, inside}
+use Rattle.reader.proofs.Answer.{answered, seeable-looked, seen-looked}
 use Rattle.reader_code.proofs.read_point_in.Statement.{statement}
 use Rattle.reader_code.proofs.read_point_in.Tie as tie
 
--- past the checks of what is given none of them fails, and so much is known
-none-fails : (c : tie.Else1) → let a = c .before .before .before .args in firstOf (take 8 (readRows (a .size) (a .d) (a .values) (a .p) (a .q) (now (a .memory)))) ≡ 0
-none-fails c = sym (c .before .first-fault .ensures) ∙ c .if1 .left
+look-for-requires : tie.Need-look-for-requires
+look-for-requires c κs = search needs
 
-known : (c : tie.Else1) → let a = c .before .before .before .args in Given (a .size) (a .d) (a .values) (now (a .memory))
-known c = given _ _ _ _ _ _ (none-fails c)
-
--- the pixel of the place is one of its dword's, and past the last check the dword is one of the memory's
-low : (c : tie.After-place-of) → c .place-of .result .pixel < perDword (c .before .before .before .before .args .d .depth)
-low c = low-pixel _ _ _ _ _ _ (none-fails (c .before)) _ (c .place-of .ensures)
-
-below : (c : tie.Else2) → c .before .before .minus .result < c .before .before .before .before .before .before .before .args .size / 4
-below c =
-    let w = c .before .before .before .place-of .result in
-    ltb-true _ _ (and-right (leb (w .down) (w .up)) _ (not-false _ (c .if2 .left)))
-
-first-fault-requires : tie.Need-first-fault-requires
-first-fault-requires c κs = search needs
+see-requires : tie.Need-see-requires
+see-requires c κs = seeable-looked _ _ _ _ _ _ _ (c .look-for .ensures)
 
 returns : tie.Need-returns
-returns c = answered _ _ _ _ _ _ _ (given-refused _ _ _ _ _ _ _ (omega arith) (c .before .first-fault .ensures))
-
-place-of-requires : tie.Need-place-of-requires
-place-of-requires c κs = known c .fit
-
-minus-requires : tie.Need-minus-requires
-minus-requires c κs = search needs
-
-returns-2 : tie.Need-returns-2
-returns-2 c =
-    let w = c .before .before .before in
-    answered _ _ _ _ _ _ _ (outside _ _ _ _ _ _ (none-fails (w .before)) _ (w .place-of .ensures) (rw (c .before .before .minus .ensures) at (c .if2 .taken)))
-
-cast-i : tie.Need-cast-i
-cast-i c =
-    let w = c .before .before .before .before in
-    omega (arith, low w, div-le-self 32 (w .before .before .before .before .args .d .depth))
-
-pixel-byte-requires : tie.Need-pixel-byte-requires
-pixel-byte-requires c κs =
-    let w = c .before .before .before .before in
-    (known (w .before) .depth, low w, omega (arith, below (c .before), w .before .before .before .before .fits .size))
-
-pixel-bit-requires : tie.Need-pixel-bit-requires
-pixel-bit-requires c κs =
-    let w = c .before .before .before .before .before in
-    (known (w .before) .depth, low w)
-
-stored-pixel-requires : tie.Need-stored-pixel-requires
-stored-pixel-requires c κs =
-    let w = c .before .before .before .before .before .before in
-    let depth = w .before .before .before .before .args .d .depth in
-    let deep = known (w .before) .depth in
-    let room = bit-room depth (w .place-of .result .pixel) deep in
-    let bytes = byte-room depth (c .before .before .before .before .before .minus .result) (w .place-of .result .pixel) deep (low w) in (
-      deep,
-      omega (arith, bytes, c .before .pixel-byte .ensures, below (c .before .before .before), known (w .before) .sized),
-      omega (arith, room .0, c .pixel-bit .ensures),
-      omega (arith, room .1, c .pixel-bit .ensures),
-    )
-
-returns-3 : tie.Need-returns-3
-returns-3 c =
-    let w = c .before .before .before .before .before .before .before in
-    let dword = c .before .before .before .before .before .before .minus .ensures in
-    answered _ _ _ _ _ _ _
-    (inside _ _ _ _ _ _ (none-fails (w .before)) _ (w .place-of .ensures) (rw dword at (c .before .before .before .before .if2 .left)) _ _ _
-    (rw dword at (c .before .before .pixel-byte .ensures)) (c .before .pixel-bit .ensures) (c .stored-pixel .ensures))
+returns c = answered _ _ _ _ _ _ _ (seen-looked _ _ _ _ _ _ _ (c .before .look-for .ensures) _ (c .see .ensures))
 
 pub read-point-in-spec : {M : Type 1} → statement M
-read-point-in-spec =
-    tie.close
-    (tie.spec
-    first-fault-requires
-    returns
-    place-of-requires
-    minus-requires
-    returns-2
-    cast-i
-    pixel-byte-requires
-    pixel-bit-requires
-    stored-pixel-requires
-    returns-3)
+read-point-in-spec = tie.close (tie.spec look-for-requires see-requires returns)
