@@ -14,7 +14,8 @@ use Rattle.compiler.specs.declared.Compiled.the-variants as Compiled
 use Rattle.chip.specs.Play.{playingOf}
 use Rattle.chip.specs.declared.Played.{Played}
 use Rattle.chip.specs.declared.Played.the-variants as Played
-use Rattle.reader.specs.Read.{displayOf, readingOf, looking}
+use Rattle.reader.specs.Read.{displayOf, readingOf}
+use Rattle.reader.specs.Looking.{looking}
 use Rattle.reader.specs.declared.Display.{Display}
 use Rattle.reader.specs.declared.Look.{Look}
 use Rattle.reader.specs.declared.PointAnswer.{PointAnswer}

@@ -18,7 +18,8 @@ use Rattle.screen.specs.Fields.{valuesFit}
 use Rattle.screen.specs.declared.ScreenValues.{ScreenValues}
 use Rattle.view.specs.declared.Place.{Place}
 use Rattle.view.proofs.Reaches.{low-place}
-use Rattle.reader.specs.Read.{Reading, lookedAt, dwordInside, readRows, colourAt, addressAt, bitAt, readAt, refusedPoint, reading, readingOf, answerOf, looking, seen, Seeable, Stands, Standing}
+use Rattle.reader.specs.Read.{Reading, lookedAt, dwordInside, readRows, colourAt, addressAt, bitAt, readAt, refusedPoint, reading, readingOf, answerOf, Stands, Standing}
+use Rattle.reader.specs.Looking.{looking, seen, Seeable}
 use Rattle.reader.specs.declared.Display.{Display}
 use Rattle.reader.specs.declared.Look.{Look}
 use Rattle.reader.specs.declared.Look.the-variants.{At, Nowhere}

@@ -1,9 +1,9 @@
 -- The point reader (01, "Refusal numbers": it is given depth, rotation, flag, panel size, the six screen register values,
 -- a panel point and the memory, and checks 18, 1, 2, 3, 4, 5, 21, 24, 25), which says where it looked (02, e).
-use Prim.Native.Nat.{ℕ, _+_, _-_, _/_, _≤_, min, max}
+use Prim.Native.Nat.{ℕ, _+_, _-_, _/_, _≤_, max}
 use mathlib.Core.Path.{_≡_}
 use mathlib.Core.List.{List, [], _∷_}
-use mathlib.Core.Bool.{Bool, true, _&&_, not, cond}
+use mathlib.Core.Bool.{Bool, _&&_, not, cond}
 use lib.ListN.{length}
 use lib.Dec.{leb, ltb, eqb}
 use Rattle.record.specs.Checks.{Row, row, firstOf}
@@ -16,8 +16,6 @@ use Rattle.screen.specs.declared.ScreenValues.{ScreenValues}
 use Rattle.view.specs.Walk.{placeOf}
 use Rattle.view.specs.declared.Place.{Place}
 use Rattle.reader.specs.declared.Display.{Display}
-use Rattle.reader.specs.declared.Look.{Look}
-use Rattle.reader.specs.declared.Look.the-variants.{At, Nowhere}
 use Rattle.reader.specs.declared.PointAnswer.{PointAnswer}
 use Rattle.reader.specs.declared.PointAnswer.the-variants.{Shown, Refused}
 
@@ -88,22 +86,6 @@ readingOf (Refused n) = record { number = n; place = 0; colour = 0; address = 0;
 -- the answer with these numbers
 unfoldable pub answerOf : Reading → PointAnswer
 answerOf r = cond (eqb (r .number) 0) (Shown (r .colour) (r .address) (r .bit)) (Refused (r .number))
-
--- ---- where the reader looks, which asks no more of the memory than its length, and what it then reads
-unfoldable pub looking : ℕ → Display → ScreenValues → ℕ → ℕ → ℕ → Look
-looking m d values p q n =
-    let k = firstOf (readRows m d values p q n) in
-    let w = lookedAt d values p q in
-    cond (eqb k 0) (At (addressAt (d .depth) w) (bitAt (d .depth) w)) (Nowhere k)
-
-unfoldable pub seen : ℕ → List ℕ → Look → PointAnswer
-seen depth memory (At a b) = Shown (storedPixel depth memory a b) a b
-seen depth memory (Nowhere k) = Refused k
-
--- the bits that are looked at are the memory's, of a pixel of the depth
-unfoldable pub Seeable : ℕ → List ℕ → Look → Type 0
-Seeable depth memory (At a b) = (isDepth depth ≡ true) × (a + max 1 (depth / 8) ≤ length memory) × (b ≤ 7) × (min depth 8 ≤ b + 1)
-Seeable depth memory (Nowhere k) = Unit {0}
 
 -- ---- what is claimed of every reading that is accepted, whatever the register values: its bits of memory, from that bit of that byte on,
 -- are the colour, and they lie in the memory
