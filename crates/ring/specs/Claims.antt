@@ -1,0 +1,24 @@
+-- What is claimed of the ring: it tells of each hour what the taken samples say, an old sample never comes back.
+use Prim.Native.Nat.{ℕ, _<_}
+use mathlib.Core.Path.{_≡_}
+use mathlib.Core.Bool.{Bool, true, false, cond}
+use mathlib.Core.List.{List, [], _∷_}
+use lib.Dec.{eqb}
+use Rattle.ring.specs.Samples.{Sample, isTaken, accepted, newestOf, telling, AllSequences}
+use Rattle.ring.specs.Kept.{emptyRing, taking, hourIn, ringAfter}
+use Rattle.ring.specs.declared.Ring.{Ring}
+
+abbrev pub isNone : List Sample → Bool
+isNone [] = true
+isNone (s ∷ ss) = false
+
+-- a ring tells what taken samples say: whether there is one, the newest number, the hour of every age, and whether another is taken
+pub record TellsOf (taken : List Sample) (r : Ring) : Type 0 where
+  pub any : eqb (r .any) 0 ≡ isNone taken
+  pub newest : r .newest ≡ newestOf taken
+  pub hours : (age : ℕ) → hourIn r age ≡ telling taken age
+  pub next : (s : Sample) → s .sequence < 65536 → taking r (s .sequence) (s .height) .number ≡ cond (isTaken taken s) 0 27
+
+-- from an empty ring, after any samples, taken or refused
+abbrev pub RingTells : Type 0
+RingTells = (came : List Sample) → AllSequences came → TellsOf (accepted came) (ringAfter emptyRing came)

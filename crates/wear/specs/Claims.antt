@@ -1,0 +1,18 @@
+-- What is claimed of the strip by itself: "From an empty ring, the picture depends on the accepted samples alone, besides what the caller gives".
+use Prim.Native.Nat.{ℕ}
+use mathlib.Core.Path.{_≡_}
+use mathlib.Core.List.{List}
+use Rattle.ring.specs.Samples.{Sample, accepted, AllSequences}
+use Rattle.ring.specs.Kept.{emptyRing, ringAfter}
+use Rattle.wear.specs.Strip.{Strip, stripFor}
+use Rattle.wear.specs.declared.Ask.{Ask}
+
+-- the strip of what came to an empty ring
+abbrev pub stripAfter : List Sample → Ask → List ℕ → List ℕ → Strip
+stripAfter came a site factory = stripFor (ringAfter emptyRing came) a site factory
+
+-- two rings from empty with the same accepted samples make the same strip
+abbrev pub SameStrip : Type 0
+SameStrip =
+    (came others : List Sample) → AllSequences came → AllSequences others → accepted came ≡ accepted others
+    → (a : Ask) (site factory : List ℕ) → stripAfter came a site factory ≡ stripAfter others a site factory

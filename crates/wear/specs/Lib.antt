@@ -1,0 +1,4 @@
+pub mod Font
+pub mod Strip
+pub mod Limits
+pub mod Claims

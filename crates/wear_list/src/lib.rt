@@ -1,0 +1,167 @@
+// The commands of the strip, and the list that holds them.
+ghost use mathlib.Core.Path.{_≡_};
+ghost use mathlib.Core.Bool.{true};
+ghost use Prim.Native.Nat.{_+_, _≤_, _<_};
+ghost use lib.ListN.{length};
+ghost use lib.Seq.{sets};
+ghost use Rattle.command.specs.Command.{commandBytes};
+ghost use Rattle.wear.specs.Strip.{fillAt, column, columns, writes, listBytes, allInReach};
+ghost use Rattle.wear.specs.Limits.{Checked, Drawable, commandCount};
+use command::Command;
+use wear::Ask;
+
+// Stores the 32 bytes of a command.
+fn put_command(list: &mut [u8], at: usize, c: Command)
+    requires { ⌜ at + 32 ≤ length (now list) ⌝ }
+    ensures { λ _. ⌜ now (list .exit) ≡ sets (now (list .entry)) at (commandBytes c) ⌝ }
+{
+    let head = c.operation as u64 + 256 * c.surface as u64 + 65536 * c.raster as u64;
+    record_code::put_number(list, at, head);
+    record_code::put_number(list, at + 4, c.x as u64 + 65536 * c.y as u64);
+    record_code::put_number(list, at + 8, c.width as u64 + 65536 * c.height as u64);
+    record_code::put_number(list, at + 12, c.sx as u64 + 65536 * c.sy as u64);
+    record_code::put_number(list, at + 16, c.colour as u64);
+    record_code::put_number(list, at + 20, 0);
+    record_code::put_number(list, at + 24, 0);
+    record_code::put_number(list, at + 28, 0);
+}
+
+// Whether no x or y of the columns' commands is past 65,535.
+pub fn columns_reach(a: Ask, heights: &[u32]) -> bool
+    requires { ⌜ Checked a ⌝ }
+    requires { ⌜ Drawable (now heights) ⌝ }
+    ensures { λ r. ⌜ r ≡ allInReach (columns a 0 (now (heights .entry))) ⌝ }
+{
+    let mut c = 0;
+    while c < heights.len() {
+        let x = a.x as u32 + c as u32 * a.column;
+        let height = heights[c];
+        let y = if height == 0 {
+            a.y as u32
+        } else {
+            a.y as u32 + 100 - height
+        };
+        if !((x <= 65535) & (y <= 65535)) {
+            return false;
+        }
+        c += 1;
+    }
+    true
+}
+
+// Whether no x or y of the number's commands is past 65,535.
+pub fn writes_reach(a: Ask, digits: &[u8]) -> bool
+    requires { ⌜ length (now digits) ≤ 5 ⌝ }
+    ensures { λ r. ⌜ r ≡ allInReach (writes a 0 (now (digits .entry))) ⌝ }
+{
+    let n = digits.len();
+    if n == 0 {
+        return true;
+    }
+    let last = a.x as u32 + 8 * (n as u32 - 1);
+    (last <= 65535) & (a.y as u32 + 100 <= 65535)
+}
+
+// How many commands the columns have.
+pub fn column_commands(heights: &[u32]) -> usize
+    requires { ⌜ length (now heights) ≤ 24 ⌝ }
+    ensures { λ r. ⌜ r ≡ commandCount (now (heights .entry)) ⌝ }
+{
+    let mut n = heights.len();
+    let mut c = 0;
+    while c < heights.len() {
+        if heights[c] != 0 {
+            n += 1;
+        }
+        c += 1;
+    }
+    n
+}
+
+// A fill on the main image.
+fn fill_at(x: u32, y: u32, width: u32, height: u32, colour: u16) -> Command
+    requires { ⌜ (x ≤ 65535) × (y ≤ 65535) ⌝ }
+    requires { ⌜ (width ≤ 65535) × (height ≤ 65535) ⌝ }
+    ensures { λ r. ⌜ r ≡ fillAt x y width height colour ⌝ }
+{
+    Command {
+        operation: 0,
+        surface: 0,
+        raster: 0,
+        x: x as u16,
+        y: y as u16,
+        width: width as u16,
+        height: height as u16,
+        sx: 0,
+        sy: 0,
+        colour,
+    }
+}
+
+// Stores the commands of column c at `at`; answers the place behind them.
+fn put_column(list: &mut [u8], at: usize, a: Ask, c: u32, height: u32) -> usize
+    requires { ⌜ Checked a ⌝ }
+    requires { ⌜ (c < 24) × (height ≤ 100) ⌝ }
+    requires { ⌜ allInReach (column a c height) ≡ true ⌝ }
+    requires { ⌜ at + length (listBytes (column a c height)) ≤ length (now list) ⌝ }
+    ensures { λ r. ⌜ r ≡ at + length (listBytes (column a c height)) ⌝ }
+    ensures { λ _. ⌜ now (list .exit) ≡ sets (now (list .entry)) at (listBytes (column a c height)) ⌝ }
+{
+    let x = a.x as u32 + c * a.column;
+    let y = a.y as u32;
+    put_command(list, at, fill_at(x, y, a.column, 100, a.background));
+    if height == 0 {
+        return at + 32;
+    }
+    put_command(
+        list,
+        at + 32,
+        fill_at(x, y + 100 - height, a.column, height, a.bar),
+    );
+    at + 64
+}
+
+// Stores the columns' commands; answers the place behind them.
+pub fn put_columns(list: &mut [u8], a: Ask, heights: &[u32]) -> usize
+    requires { ⌜ Checked a ⌝ }
+    requires { ⌜ Drawable (now heights) ⌝ }
+    requires { ⌜ allInReach (columns a 0 (now heights)) ≡ true ⌝ }
+    requires { ⌜ length (listBytes (columns a 0 (now heights))) ≤ length (now list) ⌝ }
+    ensures { λ r. ⌜ r ≡ length (listBytes (columns a 0 (now (heights .entry)))) ⌝ }
+    ensures { λ _. ⌜ now (list .exit) ≡ sets (now (list .entry)) 0 (listBytes (columns a 0 (now (heights .entry)))) ⌝ }
+{
+    let mut at = 0;
+    let mut c = 0;
+    while c < heights.len() {
+        let height = heights[c];
+        at = put_column(list, at, a, c as u32, height);
+        c += 1;
+    }
+    at
+}
+
+// Stores the number's commands at `at`.
+pub fn put_writes(list: &mut [u8], at: usize, a: Ask, digits: &[u8])
+    requires { ⌜ length (now digits) ≤ 5 ⌝ }
+    requires { ⌜ allInReach (writes a 0 (now digits)) ≡ true ⌝ }
+    requires { ⌜ at + length (listBytes (writes a 0 (now digits))) ≤ length (now list) ⌝ }
+    ensures { λ _. ⌜ now (list .exit) ≡ sets (now (list .entry)) at (listBytes (writes a 0 (now (digits .entry)))) ⌝ }
+{
+    let mut i = 0;
+    while i < digits.len() {
+        let c = Command {
+            operation: 2,
+            surface: 0,
+            raster: 12,
+            x: (a.x as u32 + 8 * i as u32) as u16,
+            y: (a.y as u32 + 100) as u16,
+            width: 8,
+            height: 8,
+            sx: 0,
+            sy: 0,
+            colour: 0,
+        };
+        put_command(list, at + 32 * i, c);
+        i += 1;
+    }
+}
