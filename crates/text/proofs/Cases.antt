@@ -28,10 +28,14 @@ older-reasons : (reason 6 ≡ letters "main base not a multiple of 4, or image p
 unfolding reason
 older-reasons = (refl, refl, refl, refl)
 
-last-reason : reason 26 ≡ letters "line length below the shown width, not a multiple of 32 / depth, or over 1023 dwords"
+line-reason : reason 26 ≡ letters "line length below the shown width, not a multiple of 32 / depth, or over 1023 dwords"
+unfolding reason
+line-reason = refl
+
+last-reason : reason 27 ≡ letters "sample not 1 to 512 steps ahead or above 100, or age, hours, column, font, digit or place out of range"
 unfolding reason
 last-reason = refl
 
-no-reason : reason 27 ≡ []
+no-reason : reason 28 ≡ []
 unfolding reason
 no-reason = refl

@@ -5,7 +5,7 @@ use mathlib.Core.List.{List, [], _∷_, _++_}
 use lib.ListN.{getD}
 use Rattle.text.specs.Text.{letters, decimal}
 
--- why 0, 1 and so on are given (01, "Refusal numbers"; 02, c and d): what differs for the S1D13706 stands behind "13706:"
+-- why 0, 1 and so on are given (01, "Refusal numbers"; 02, c, d and f): what differs for the S1D13706 stands behind "13706:"
 abbrev pub reasons : List String
 reasons =
     "accepted"
@@ -35,6 +35,7 @@ reasons =
     ∷ "panel point outside the panel"
     ∷ "dword address outside 0 to 65535 (13706: 20479)"
     ∷ "line length below the shown width, not a multiple of 32 / depth, or over 1023 dwords"
+    ∷ "sample not 1 to 512 steps ahead or above 100, or age, hours, column, font, digit or place out of range"
     ∷ []
 
 -- the reason of a number; none for one that is not given

@@ -1,7 +1,7 @@
 // The reasons of the refusals.
 
 // The reason of 0, of 1 and so on, a line each.
-pub const REASONS: [u8; 1206] = *b"accepted
+pub const REASONS: [u8; 1309] = *b"accepted
 screen record not 32 bytes, flag above 1, or a spare byte not zero
 depth not 1, 2, 4, 8 or 16
 rotation above 3
@@ -28,10 +28,11 @@ data word when none is due, or none when one is due
 panel point outside the panel
 dword address outside 0 to 65535 (13706: 20479)
 line length below the shown width, not a multiple of 32 / depth, or over 1023 dwords
+sample not 1 to 512 steps ahead or above 100, or age, hours, column, font, digit or place out of range
 ";
 
 // Where each line begins, and where the last one ends.
-pub const STARTS: [usize; 28] = [
+pub const STARTS: [usize; 29] = [
     0,
     9,
     76,
@@ -60,4 +61,5 @@ pub const STARTS: [usize; 28] = [
     1073,
     1121,
     1206,
+    1309,
 ];
