@@ -1,2 +1,3 @@
 pub mod Fits
 pub mod Answers
+pub mod Wear

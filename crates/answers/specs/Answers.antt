@@ -1,4 +1,4 @@
--- The answers of the C library (include/s1d.h): the numbers of 01, "Refusal numbers", field by field.
+-- The answers of the C library (include/s1d.h): the numbers of 01, "Refusal numbers", and of 02, f, field by field.
 use Prim.Native.Nat.{ℕ}
 use mathlib.Core.List.{List}
 use Rattle.screen.specs.Values.{sixValues}
@@ -9,10 +9,16 @@ use Rattle.compiler.specs.Part.{partFrom, partSize}
 use Rattle.reader.specs.Read.{Reading}
 use Rattle.reader.specs.declared.Display.{Display}
 use Rattle.unit.specs.Draw.{Drawing}
+use Rattle.ring.specs.Samples.{Telling}
+use Rattle.wear.specs.Font.{Finding}
+use Rattle.wear.specs.Strip.{Stripping}
 use Rattle.answers.specs.declared.S1dCompiled.{S1dCompiled}
 use Rattle.answers.specs.declared.S1dPoint.{S1dPoint}
 use Rattle.answers.specs.declared.S1dDrawn.{S1dDrawn}
 use Rattle.answers.specs.declared.S1dValues.{S1dValues}
+use Rattle.answers.specs.declared.S1dHour.{S1dHour}
+use Rattle.answers.specs.declared.S1dStrip.{S1dStrip}
+use Rattle.answers.specs.declared.S1dGlyph.{S1dGlyph}
 
 -- compiling's numbers, and where the refused command's part of the list starts, with its length
 unfoldable pub compiledOf : Compiling → List ℕ → S1dCompiled
@@ -43,3 +49,15 @@ drawnOf d = record { number = d .number; place = d .place; length = d .length; v
 -- six values in the stream's order
 unfoldable pub valuesIn : ScreenValues → S1dValues
 valuesIn v = record { values = sixValues v }
+
+-- what is told of an hour
+unfoldable pub hourGiven : Telling → S1dHour
+hourGiven t = record { number = t .number; sampled = t .sampled; height = t .height }
+
+-- a strip's number and both lengths
+unfoldable pub stripGiven : Stripping → S1dStrip
+stripGiven s = record { number = s .number; «list_length» = s .bytes; «words_length» = s .words }
+
+-- where a glyph stands
+unfoldable pub glyphGiven : Finding → S1dGlyph
+glyphGiven f = record { number = f .number; site = f .site; at = f .at; length = f .length }

@@ -36,3 +36,28 @@ pub struct S1dDrawn {
 pub struct S1dValues {
     pub values: [u32; 6],
 }
+
+// What is told of an hour: whether it has a sample (1, else 0), and its height.
+#[repr(C)]
+pub struct S1dHour {
+    pub number: u32,
+    pub sampled: u32,
+    pub height: u32,
+}
+
+// What making a strip gives back: the list's length in bytes, and how many words there are.
+#[repr(C)]
+pub struct S1dStrip {
+    pub number: u32,
+    pub list_length: u64,
+    pub words_length: u64,
+}
+
+// Where a digit's glyph stands: in the site font (1) or the factory font (0), from which byte on, and its bytes.
+#[repr(C)]
+pub struct S1dGlyph {
+    pub number: u32,
+    pub site: u32,
+    pub at: u64,
+    pub length: u64,
+}

@@ -1,4 +1,4 @@
-// The answers of compiling, playing, reading and drawing as the C library's structs of numbers.
+// The answers of compiling, playing, reading and drawing, of the ring and of the strip as the C library's structs of numbers.
 ghost use mathlib.Core.Path.{_≡_};
 ghost use Prim.Native.Nat.{_^_, _<_};
 ghost use Rattle.screen.specs.Narrow.{Narrow};
@@ -7,17 +7,26 @@ ghost use Rattle.chip.specs.Play.{playingOf};
 ghost use Rattle.reader.specs.Read.{readingOf};
 ghost use Rattle.unit.specs.Draw.{drawingOf};
 ghost use Rattle.serial.specs.Serial.{answerOf};
-ghost use Rattle.answers.specs.Answers.{compiledOf, pointOf, drawnOf, valuesIn};
+ghost use Rattle.ring.specs.Kept.{tellingOf};
+ghost use Rattle.wear.specs.Font.{findingOf};
+ghost use Rattle.wear.specs.Strip.{strippingOf};
+ghost use Rattle.answers.specs.Answers.{compiledOf, pointOf, drawnOf, valuesIn, hourGiven, stripGiven, glyphGiven};
 use answers::S1dCompiled;
 use answers::S1dDrawn;
+use answers::S1dGlyph;
+use answers::S1dHour;
 use answers::S1dPoint;
+use answers::S1dStrip;
 use answers::S1dValues;
 use chip::Played;
 use compiler::Compiled;
 use reader::PointAnswer;
+use ring::Hour;
 use screen::ScreenValues;
 use serial::Answer;
 use unit::Drawn;
+use wear::GlyphAnswer;
+use wear::StripAnswer;
 
 // Compiling's answer, with the refused command's part of the list.
 pub fn compiled_of(c: Compiled, list: &[u8]) -> S1dCompiled
@@ -116,5 +125,72 @@ pub fn values_in(v: ScreenValues) -> S1dValues
 {
     S1dValues {
         values: screen_values::six_values(v),
+    }
+}
+
+// What is told of an hour.
+pub fn hour_given(a: Hour) -> S1dHour
+    ensures { λ r. ⌜ r ≡ hourGiven (tellingOf a) ⌝ }
+{
+    match a {
+        Hour::Sample(height) => S1dHour {
+            number: 0,
+            sampled: 1,
+            height,
+        },
+        Hour::Blank => S1dHour {
+            number: 0,
+            sampled: 0,
+            height: 0,
+        },
+        Hour::Refused(number) => S1dHour {
+            number,
+            sampled: 0,
+            height: 0,
+        },
+    }
+}
+
+// The answer of making a strip.
+pub fn strip_given(a: StripAnswer) -> S1dStrip
+    ensures { λ r. ⌜ r ≡ stripGiven (strippingOf a) ⌝ }
+{
+    match a {
+        StripAnswer::Made(list_length, words_length) => S1dStrip {
+            number: 0,
+            list_length,
+            words_length,
+        },
+        StripAnswer::Refused(number) => S1dStrip {
+            number,
+            list_length: 0,
+            words_length: 0,
+        },
+    }
+}
+
+// Where a digit's glyph stands.
+pub fn glyph_given(a: GlyphAnswer) -> S1dGlyph
+    ensures { λ r. ⌜ r ≡ glyphGiven (findingOf a) ⌝ }
+{
+    match a {
+        GlyphAnswer::Site(at) => S1dGlyph {
+            number: 0,
+            site: 1,
+            at,
+            length: 8,
+        },
+        GlyphAnswer::Factory(at) => S1dGlyph {
+            number: 0,
+            site: 0,
+            at,
+            length: 8,
+        },
+        GlyphAnswer::Refused(number) => S1dGlyph {
+            number,
+            site: 0,
+            at: 0,
+            length: 0,
+        },
     }
 }
