@@ -1,2 +1,4 @@
 pub mod Runs
 pub mod Meanings
+pub mod Texts
+pub mod Cases
