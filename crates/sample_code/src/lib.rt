@@ -47,8 +47,8 @@ pub fn before_stop<'a>(stop: Stop, s: &'a [u8]) -> &'a [u8]
 pub fn behind_run<'a>(stop: Stop, s: &'a [u8]) -> &'a [u8]
     ensures { λ r. ⌜ now r ≡ behind stop (now (s .entry)) ⌝ }
 {
-    let n = run_end(stop, s);
-    &s[n..]
+    let from = run_end(stop, s);
+    &s[from..]
 }
 
 // Two numbers as a sample.
