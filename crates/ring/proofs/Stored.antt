@@ -63,12 +63,12 @@ stores a b ns hs s v k at n h =
     let made : blanked 514 (p ++ hs) s k ≡ p ++ new = subst (λ (x : ℕ). blanked x (p ++ hs) s k ≡ p ++ new) e (blanked-after p hs s k) in
     let first : set (set (p ++ new) 0 1) 1 s ≡ 1 ∷ s ∷ (ns ++ new) = refl in
     let number : set (1 ∷ s ∷ (ns ++ new)) (2 + at) s ≡ (1 ∷ s ∷ set ns at s) ++ new =
-        set-after (1 ∷ s ∷ []) (ns ++ new) at s
-        ∙ ap (λ (l : List ℕ). 1 ∷ s ∷ l) (set-append-left ns new at s (rw n h)) in
+    set-after (1 ∷ s ∷ []) (ns ++ new) at s
+    ∙ ap (λ (l : List ℕ). 1 ∷ s ∷ l) (set-append-left ns new at s (rw n h)) in
     let q : List ℕ = 1 ∷ s ∷ set ns at s in
     let f : length q ≡ 514 = ap (λ (x : ℕ). suc (suc x)) (length-set ns at s ∙ n) in
     let height : set (q ++ new) (514 + at) v ≡ q ++ set new at v =
-        subst (λ (x : ℕ). set (q ++ new) (x + at) v ≡ q ++ set new at v) f (set-after q new at v) in
+    subst (λ (x : ℕ). set (q ++ new) (x + at) v ≡ q ++ set new at v) f (set-after q new at v) in
     ap (λ (l : List ℕ). set (set (set (set l 0 1) 1 s) (2 + at) s) (514 + at) v) made
     ∙ (ap (λ (l : List ℕ). set (set l (2 + at) s) (514 + at) v) first
     ∙ (ap (λ (l : List ℕ). set l (514 + at) v) number
@@ -84,7 +84,7 @@ pub cells-whole : (cells : List ℕ) → length cells ≡ 1026 → cells ≡ cel
 cells-whole cells n =
     two-cells cells (omega arith)
     ∙ ap (λ (l : List ℕ). getD cells 0 0 ∷ getD cells 1 0 ∷ l)
-      (sym (take-append-drop 512 (drop 2 cells)) ∙ ap (λ (l : List ℕ). take 512 (drop 2 cells) ++ l) (drop-drop 512 2 cells))
+    (sym (take-append-drop 512 (drop 2 cells)) ∙ ap (λ (l : List ℕ). take 512 (drop 2 cells) ++ l) (drop-drop 512 2 cells))
 
 length-numbers : (cells : List ℕ) → length cells ≡ 1026 → length (take 512 (drop 2 cells)) ≡ 512
 length-numbers cells n = simp (length-take, length-drop) (omega arith)
@@ -128,12 +128,12 @@ sample-refused r s h t = rw t
 pub sample-taken : (r : Ring) (blanks : List ℕ) (s h k at : ℕ) → takes (r .any) (r .newest) s h ≡ true
     → k ≡ hoursOn (r .any) (r .newest) s → at ≡ slotOf s 0 → blanks ≡ blanked 0 (r .heights) s (k - 1)
     → _≡_ {A = Taken}
-      (record { number = 0; ring = record { any = 1; newest = s; numbers = set (r .numbers) at s; heights = set blanks at (h + 1) } })
-      (taking r s h)
+    (record { number = 0; ring = record { any = 1; newest = s; numbers = set (r .numbers) at s; heights = set blanks at (h + 1) } })
+    (taking r s h)
 unfolding taking withSample
 sample-taken r blanks s h k at t m a b =
     let f : List ℕ → ℕ → Taken = λ (l : List ℕ) (x : ℕ).
-        record { number = 0; ring = record { any = 1; newest = s; numbers = set (r .numbers) x s; heights = set l x (h + 1) } } in
+    record { number = 0; ring = record { any = 1; newest = s; numbers = set (r .numbers) x s; heights = set l x (h + 1) } } in
     rw t (ap (λ (l : List ℕ). f l at) b
     ∙ (ap (λ (x : ℕ). f (blanked 0 (r .heights) s (x - 1)) at) m
     ∙ ap (λ (x : ℕ). f (blanked 0 (r .heights) s (hoursOn (r .any) (r .newest) s - 1)) x) a))
@@ -160,8 +160,8 @@ cells-taken cells blanks s h k at n t m a l b =
     ∙ ap cellsOf (taken-ring (ringIn cells) s h t)))))
 
 -- the heights from the oldest on: one more, and all of them
-pub heights-start : (r : Ring) (hours : ℕ) (l : List ℕ) → take 0 l ++ heightsOf r (hours - 0) ≡ heightsOf r hours
-heights-start r hours l = let e : hours - 0 ≡ hours = omega arith in rw e
+pub heights-start : (r : Ring) (hours : ℕ) → heightsOf r (hours - 0) ≡ heightsOf r hours
+heights-start r hours = let e : hours - 0 ≡ hours = omega arith in rw e
 
 pub heights-turn : (r : Ring) (hours i v age : ℕ) (l : List ℕ) → i < hours → i < length l → age ≡ hours - 1 - i → v ≡ hourIn r age .height
     → take i l ++ heightsOf r (hours - i) ≡ heightsOf r hours → take (i + 1) (set l i v) ++ heightsOf r (hours - (i + 1)) ≡ heightsOf r hours
@@ -182,6 +182,14 @@ unfolding heightsOf
 heights-end r hours i l e t =
     let z : hours - hours ≡ 0 = omega arith in
     sym (append-nil (take hours l)) ∙ ap (λ (x : ℕ). take hours l ++ heightsOf r x) (sym z) ∙ subst (λ (x : ℕ). take x l ++ heightsOf r (hours - x) ≡ heightsOf r hours) e t
+
+-- the ring of its numbers and heights
+pub ring-made : (cells ns hs : List ℕ) → length cells ≡ 1026 → ns ≡ take 512 (drop 2 cells) → hs ≡ take 512 (drop 514 cells)
+    → _≡_ {A = Ring} (record { any = getD cells 0 0; newest = getD cells 1 0; numbers = ns; heights = hs }) (ringIn cells)
+ring-made cells ns hs n e f =
+    let m : length (drop 514 cells) ≤ 512 = simp length-drop (omega arith) in
+    let g : hs ≡ drop 514 cells = f ∙ take-all 512 (drop 514 cells) m in
+    λ t. record { any = getD cells 0 0; newest = getD cells 1 0; numbers = e t; heights = g t }
 
 -- a struct tells the length of an array in this form
 pub array-length : (xs : List ℕ) → length (map (λ (x : ℕ). x) xs) ≡ length xs

@@ -213,9 +213,10 @@ fn cells_from(cells: &[u16; 1026], from: usize) -> [u16; 512]
 pub fn ring_from(cells: &[u16; 1026]) -> Ring
     ensures { λ r. ⌜ r ≡ ringIn (now (cells .entry)) ⌝ }
 {
+    let all = &cells[..];
     Ring {
-        any: cells[0],
-        newest: cells[1],
+        any: all[0],
+        newest: all[1],
         numbers: cells_from(cells, 2),
         heights: cells_from(cells, 514),
     }

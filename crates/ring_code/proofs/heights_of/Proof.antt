@@ -23,7 +23,7 @@ abbrev μ-loop : tie.MeasureT-loop
 
 -- src/lib.rt:171:5
 loop-holds : tie.Need-loop-holds Inv-loop μ-loop
-loop-holds c = let a = c .args in (c .pre, (omega arith, (refl, heights-start (a .t1) (a .hours) _)))
+loop-holds c = let a = c .args in (c .pre, (omega arith, (refl, heights-start (a .t1) (a .hours))))
 
 -- src/lib.rt:172:19
 sub-age : tie.Need-sub-age Inv-loop μ-loop

@@ -54,7 +54,7 @@ slot-answer-requires c κs = search needs
 
 -- src/lib.rt:147:1
 returns-2 : tie.Need-returns-2
-returns-2 c = answers-in _ _ (c .before .before .before .before .slot-of .result) _ (c .before .before .before .before .before .before .if1 .left) (c .before .before .before .before .slot-of .ensures) (omega (arith, c .before .before .before .before .slot-of .ensures)) (c .slot-answer .ensures)
+returns-2 c = answers-in (c .before .before .before .before .before .before .before .args .cells .now) (c .before .before .before .before .before .before .before .args .age) (c .before .before .before .before .slot-of .result) (c .slot-answer .result) (c .before .before .before .before .before .before .if1 .left) (c .before .before .before .before .slot-of .ensures) (omega (arith, c .before .before .before .before .slot-of .ensures)) (c .slot-answer .ensures)
 
 pub hour-in-spec : {M : Type 1} → statement M
 hour-in-spec =
