@@ -1,3 +1,4 @@
 pub mod Pixels
 pub mod Drawn
 pub mod Checked
+pub mod Strips
