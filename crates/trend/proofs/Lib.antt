@@ -2,3 +2,4 @@ pub mod Pixels
 pub mod Drawn
 pub mod Checked
 pub mod Strips
+pub mod Columns
