@@ -3,3 +3,4 @@ pub mod Drawn
 pub mod Checked
 pub mod Strips
 pub mod Columns
+pub mod Numbers
