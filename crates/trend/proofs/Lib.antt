@@ -4,3 +4,5 @@ pub mod Checked
 pub mod Strips
 pub mod Columns
 pub mod Numbers
+pub mod Compiled
+pub mod Shown
