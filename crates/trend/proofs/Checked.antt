@@ -1,14 +1,13 @@
 -- What is known of a strip that is made and of a screen that holds it.
 use Prim.Native.Nat.{ℕ, _+_, _*_, _/_, _≤_, _<_}
-use mathlib.Core.Path.{_≡_, refl, sym, ap, subst, _∙_}
-use mathlib.Core.Bool.{Bool, true, false, not, _&&_, _||_, cond, and-eq-true-iff, true≢false}
+use mathlib.Core.Path.{_≡_, refl, sym}
+use mathlib.Core.Bool.{Bool, true, false, _&&_, _||_, cond, and-eq-true-iff, true≢false}
 use mathlib.Core.Logic.{_⊎_, inl, inr, ⊎-elim}
 use mathlib.Core.List.{List}
 use native.Mathlib.Omega.{arith}
 use lib.ListN.{length}
 use lib.Dec.{leb, ltb, eqb, lit<}
-use borrow.Author.Tests.{eqb-true, eqb-false, eq-eqb, leb-true, ltb-false, not-false}
-use Rattle.record.specs.Lists.{AllBelow}
+use borrow.Author.Tests.{eqb-true, eq-eqb, leb-true, ltb-false, not-false}
 use Rattle.record.specs.Checks.{firstOf, AllPass, Numbered}
 use Rattle.record.proofs.Checks.{none}
 use Rattle.record.proofs.Choice.{and-left, and-right, or-elim}
@@ -16,14 +15,13 @@ use Rattle.pixel.specs.Depth.{isDepth}
 use Rattle.pixel.proofs.Depth.{depth, factor-le}
 use Rattle.screen.specs.Screen.{memorySize, fieldsOf, fieldRows, mainImage}
 use Rattle.screen.specs.declared.Image.{Image}
-use Rattle.screen.specs.declared.Screen.{Screen}
 use Rattle.screen.proofs.Read.{accepts, read-accepted}
 use Rattle.command.specs.Command.{insideImage, surfaceOf}
 use Rattle.unit.proofs.Painted.{OneOrTwo}
 use Rattle.unit.proofs.Drawable.{Surface, surface-ok}
 use Rattle.wear.specs.Strip.{Strip, stripList, stripWords, Stripping, stripping, askRows, stripRows, columnHeight, glyphSize, fillAt}
 use Rattle.wear.specs.declared.Ask.{Ask}
-use Rattle.trend.specs.Trend.{holds, Fits, Colours}
+use Rattle.trend.specs.Trend.{holds, Fits}
 
 -- ---- the checks of what is asked
 pub record AskOk (a : Ask) : Type 0 where

@@ -1,20 +1,20 @@
 -- A pixel of the main image after commands that miss it, and after the strip's columns.
 use Prim.Native.Nat.{ℕ, zero, suc, _+_, _-_, _*_, _%_, _^_, _≤_, _<_}
 use mathlib.Core.Path.{_≡_, refl, sym, ap, _∙_}
-use mathlib.Core.Bool.{Bool, true, false, _&&_, cond, true≢false}
+use mathlib.Core.Bool.{Bool, true, false, _&&_, cond}
 use mathlib.Core.List.{List, [], _∷_, _++_}
 use native.Mathlib.Omega.{arith}
 use native.Mathlib.Nat.{mod-eq-of-lt}
 use lib.ListN.{length, getD, take, drop}
-use lib.Dec.{leb, ltb, eqb}
-use borrow.Author.Tests.{leb-true, leb-false, ltb-true, le-leb, lt-ltb, lt-leb, eq-eqb, eqb-true, eqb-false}
+use lib.Dec.{leb, eqb}
+use borrow.Author.Tests.{leb-true, leb-false, ltb-true, le-leb, lt-ltb, lt-leb, eq-eqb, eqb-true}
 use Rattle.record.proofs.Choice.{and-left, and-right, both-ways}
 use Rattle.screen.specs.Screen.{mainImage}
 use Rattle.screen.specs.declared.Screen.{Screen}
 use Rattle.view.specs.View.{pixelAt, among}
 use Rattle.command.specs.Command.{surfaceOf, wordsTaken}
 use Rattle.command.specs.declared.Command.{Command}
-use Rattle.unit.specs.Sheet.{sheetPixel, newPixel, sheetCommand}
+use Rattle.unit.specs.Sheet.{sheetPixel, sheetCommand}
 use Rattle.unit.proofs.Painted.{OneOrTwo}
 use Rattle.unit.proofs.Drawable.{Surface}
 use Rattle.unit.proofs.Listed.{length-sheet}

@@ -1,26 +1,25 @@
 -- The strip's task: it is accepted and compiles, and what a panel point that shows main then shows is a pixel of the sheet after the strip's
 -- commands.
 use Prim.Native.Nat.{ℕ, _+_, _*_, _%_, _≤_, _<_}
-use mathlib.Core.Path.{_≡_, refl, sym, ap, ap₂, subst, _∙_}
+use mathlib.Core.Path.{_≡_, refl, sym, ap, subst, _∙_}
 use mathlib.Core.Bool.{Bool, true, false, not, _&&_, cond}
-use mathlib.Core.List.{List, [], _∷_, _++_, map}
+use mathlib.Core.List.{List, [], _∷_, map}
 use mathlib.Core.Logic.{⊎-elim}
 use native.Mathlib.Omega.{arith}
 use lib.ListN.{length, getD, length-append}
 use lib.Dec.{eqb, leb, ltb}
 use borrow.Author.Tests.{eq-eqb, le-leb, le-ltb}
-use Rattle.record.specs.Lists.{AllBelow, partsOf}
+use Rattle.record.specs.Lists.{AllBelow}
 use Rattle.record.specs.Checks.{Refusal, firstOf}
 use Rattle.record.proofs.Checks.{row-passes, rows-end}
 use Rattle.record.proofs.Stores.{length-stream}
 use Rattle.screen.specs.Screen.{memorySize, fieldsOf, screenRows, mainImage}
 use Rattle.screen.specs.declared.Screen.{Screen}
-use Rattle.view.specs.View.{Pixel, pixelAt, viewPixel, inWindow, windowPixel}
+use Rattle.view.specs.View.{Pixel, pixelAt}
 use Rattle.view.proofs.Demand.{view-in}
-use Rattle.reader.specs.Read.{Reading, reading}
-use Rattle.chip.specs.Play.{playing, played}
+use Rattle.reader.specs.Read.{Reading}
 use Rattle.command.specs.Command.{commandBytes}
-use Rattle.command.specs.Task.{Task, screenIn, commandsIn, listRows, firstRefusal, allWords, wordRows, taskRefusal}
+use Rattle.command.specs.Task.{Task, screenIn, commandsIn, listRows, firstRefusal, allWords, taskRefusal}
 use Rattle.command.specs.declared.Command.{Command}
 use Rattle.command.proofs.Task.{words-fit, by-end}
 use Rattle.compiler.specs.Stream.{recordsIn}
@@ -31,7 +30,7 @@ use Rattle.unit.specs.Sheet.{sheetPixel, sheetCommands, sheetAfter, sheetShows}
 use Rattle.unit.specs.Point.{sheetPoint}
 use Rattle.unit.specs.Demands.{InBytes}
 use Rattle.unit.proofs.Demands.{demand-3}
-use Rattle.wear.specs.Strip.{Strip, columns, writes, stripCommands, stripList, stripWords, listBytes, columnHeight, glyphSize}
+use Rattle.wear.specs.Strip.{Strip, columns, writes, stripCommands, stripList, stripWords, columnHeight, glyphSize}
 use Rattle.wear.specs.declared.Ask.{Ask}
 use Rattle.wear.proofs.Lists.{length-list, list-parts, columns-count, writes-count}
 use Rattle.trend.specs.Trend.{Colours, taskWith, ShowsMain, colourAfter}

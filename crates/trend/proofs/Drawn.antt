@@ -1,11 +1,10 @@
 -- A list of commands by the commands themselves: none is refused, what they leave on the plain sheet, and the words that they take.
 use Prim.Native.Nat.{ℕ, zero, suc, _+_, _-_, _<_, _≤_}
-use mathlib.Core.Path.{_≡_, refl, sym, ap, subst, _∙_}
-use mathlib.Core.Bool.{Bool, true, false, not, _||_}
+use mathlib.Core.Path.{_≡_, refl, sym, ap, _∙_}
+use mathlib.Core.Bool.{true, false, not, _||_}
 use mathlib.Core.List.{List, [], _∷_, _++_, map}
 use native.Mathlib.Omega.{arith}
 use native.Mathlib.Nat.{zero-add, add-assoc}
-use native.Mathlib.Numerals.{add-one}
 use lib.ListN.{length, take, drop}
 use lib.Seq.{drop-drop}
 use lib.Dec.{eqb}
@@ -14,7 +13,7 @@ use Rattle.record.specs.Lists.{AllBelow}
 use Rattle.record.specs.Checks.{firstOf}
 use Rattle.record.proofs.Checks.{row-passes, rows-end}
 use Rattle.screen.specs.declared.Screen.{Screen}
-use Rattle.command.specs.Command.{commandOf, commandBytes, formed, placed, wordsTaken, commandRows, refusal}
+use Rattle.command.specs.Command.{commandBytes, formed, placed, wordsTaken, commandRows, refusal}
 use Rattle.command.specs.Task.{firstRefusal, allWords}
 use Rattle.command.specs.declared.Command.{Command}
 use Rattle.command.proofs.Bytes.{Storable, command-back}

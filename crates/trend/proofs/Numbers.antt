@@ -1,11 +1,11 @@
 -- A pixel of the number below the columns: the host words of a glyph, and the writes of the digits.
 use Prim.Native.Nat.{ℕ, zero, suc, _+_, _-_, _*_, _/_, _%_, _^_, _≤_, _<_}
-use mathlib.Core.Path.{_≡_, refl, sym, ap, ap₂, subst, _∙_}
+use mathlib.Core.Path.{_≡_, refl, sym, ap, ap₂, _∙_}
 use mathlib.Core.Bool.{Bool, true, false, cond}
 use mathlib.Core.Logic.{_⊎_, ⊎-elim}
 use mathlib.Core.List.{List, [], _∷_, _++_}
 use native.Mathlib.Omega.{arith}
-use native.Mathlib.Nat.{mod-eq-of-lt, zero-add}
+use native.Mathlib.Nat.{mod-eq-of-lt}
 use lib.ListN.{length, getD, take, drop}
 use lib.Seq.{take-append-seam, drop-append-seam}
 use lib.Dec.{eqb}
@@ -16,7 +16,6 @@ use Rattle.record.proofs.Lists.{getD-tabulate, below-tabulate}
 use Rattle.screen.specs.Screen.{mainImage}
 use Rattle.screen.specs.declared.Screen.{Screen}
 use Rattle.command.specs.Command.{surfaceOf, lineWords, wordsTaken}
-use Rattle.command.specs.declared.Command.{Command}
 use Rattle.unit.specs.Sheet.{hostPixel, sheetCommand}
 use Rattle.unit.proofs.Painted.{OneOrTwo}
 use Rattle.unit.proofs.Drawable.{Surface}
@@ -52,18 +51,18 @@ module _ (a : Ask) (glyph : List ℕ) where
   unfolding glyphWord lineWords
   word-narrow e k = rw e refl
 
-  pub words-below : (a .depth ≡ 8) ⊎ (a .depth ≡ 16) → a .bar < 65536 → a .background < 65536 → (a .depth ≡ 8 → a .bar ≤ 255) → (a .depth ≡ 8 → a .background ≤ 255) → AllBelow 65536 (glyphWords a glyph)
+  narrow-below : a .depth ≡ 8 → a .bar < 256 → a .background < 256 → (k : ℕ) → glyphWord a glyph k < 65536
+  narrow-below e bar background k =
+      rw (word-narrow e k) (omega (arith, colour-below 256 bar background (2 * (k % 4)) (k / 4), colour-below 256 bar background (2 * (k % 4) + 1) (k / 4)))
+
+  wide-below : a .depth ≡ 16 → a .bar < 65536 → a .background < 65536 → (k : ℕ) → glyphWord a glyph k < 65536
+  wide-below e bar background k = rw (word-wide e k) (colour-below 65536 bar background (k % 8) (k / 8))
+
+  words-below : (a .depth ≡ 8) ⊎ (a .depth ≡ 16) → a .bar < 65536 → a .background < 65536 → (a .depth ≡ 8 → a .bar ≤ 255) → (a .depth ≡ 8 → a .background ≤ 255) → AllBelow 65536 (glyphWords a glyph)
   unfolding glyphWords
   words-below depth bar background bar-low background-low =
       below-tabulate 65536 (omega arith) (glyphSize * lineWords (a .depth) glyphSize) (glyphWord a glyph)
-      (λ k.
-      ⊎-elim
-      (λ e.
-      let b : a .bar < 256 = omega (arith, bar-low e) in
-      let g : a .background < 256 = omega (arith, background-low e) in
-      rw (word-narrow e k) (omega (arith, colour-below 256 b g (2 * (k % 4)) (k / 4), colour-below 256 b g (2 * (k % 4) + 1) (k / 4))))
-      (λ e. rw (word-wide e k) (colour-below 65536 bar background (k % 8) (k / 8)))
-      depth)
+      (⊎-elim (λ e. narrow-below e (omega (arith, bar-low e)) (omega (arith, background-low e))) (λ e. wide-below e bar background) depth)
 
   -- ---- pixel (i, j) of them
   module _ (i j : ℕ) (hi : i < 8) (hj : j < 8) where

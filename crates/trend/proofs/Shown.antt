@@ -1,31 +1,29 @@
 -- The wear strip on the panel.
 use Prim.Native.Nat.{ℕ, _+_, _-_, _*_, _^_, _≤_, _<_}
 use mathlib.Core.Path.{_≡_, refl, sym, ap, subst, _∙_}
-use mathlib.Core.Bool.{Bool, true, false, _&&_, cond, true≢false}
-use mathlib.Core.List.{List, [], _∷_, _++_}
+use mathlib.Core.Bool.{true, false, cond, true≢false}
+use mathlib.Core.List.{List}
 use mathlib.Core.Logic.{⊎-elim}
 use native.Mathlib.Omega.{arith}
 use native.Mathlib.Nat.{zero-add}
 use lib.ListN.{length, getD, drop}
-use lib.Dec.{leb, eqb}
+use lib.Dec.{leb}
 use Rattle.record.specs.Lists.{AllBelow}
 use Rattle.record.specs.Checks.{firstOf}
 use Rattle.screen.specs.Screen.{memorySize, fieldsOf, screenRows, mainImage}
 use Rattle.screen.specs.declared.Screen.{Screen}
 use Rattle.view.specs.View.{pixelAt, among}
-use Rattle.compiler.specs.Compile.{streamOf}
 use Rattle.unit.specs.Sheet.{sheetPixel}
-use Rattle.ring.specs.Samples.{Sample, accepted, telling, AllSequences}
 use Rattle.ring.specs.Kept.{hourIn, emptyRing, ringAfter}
 use Rattle.ring.specs.Claims.{RingTells}
 use Rattle.ring.specs.declared.Ring.{Ring}
 use Rattle.ring.proofs.Heights.{heights-count, heights-low, heights-at}
-use Rattle.wear.specs.Font.{glyphOf, glyphBit}
-use Rattle.wear.specs.Strip.{Strip, stripFor, stripCommands, stripList, stripWords, columns, writes, columnHeight, glyphSize, glyphColour}
+use Rattle.wear.specs.Font.{glyphOf}
+use Rattle.wear.specs.Strip.{Strip, stripFor, stripCommands, stripWords, columns, writes, columnHeight, glyphSize, glyphColour}
 use Rattle.wear.specs.Claims.{stripAfter}
 use Rattle.wear.specs.declared.Ask.{Ask}
-use Rattle.trend.specs.Trend.{Fits, Colours, taskWith, ShowsMain, colourAfter, inColumns, inNumber, Shown, RingShown, TrendShown}
-use Rattle.trend.proofs.Drawn.{taken, drawn, length-drawn, drawn-append}
+use Rattle.trend.specs.Trend.{Colours, inColumns, inNumber, Shown, RingShown, TrendShown}
+use Rattle.trend.proofs.Drawn.{drawn, length-drawn, drawn-append}
 use Rattle.trend.proofs.Checked.{Known, known}
 use Rattle.trend.proofs.Strips.{columns-take, digits-few}
 use Rattle.trend.proofs.Columns.{among-is, both-true, MissedBy, missed, columns-miss, columns-shade}

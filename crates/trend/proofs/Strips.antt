@@ -1,11 +1,10 @@
 -- The strip's commands: none is refused, how many there are, and the host words that they take.
 use Prim.Native.Nat.{ℕ, zero, suc, _+_, _-_, _*_, _/_, _%_, _≤_, _<_}
-use mathlib.Core.Path.{_≡_, refl, sym, ap, ap₂, subst, _∙_}
+use mathlib.Core.Path.{_≡_, refl, sym, ap, ap₂, _∙_}
 use mathlib.Core.Bool.{Bool, true, false, not, _||_, cond}
-use mathlib.Core.Logic.{⊎-elim}
 use mathlib.Core.List.{List, [], _∷_, _++_}
 use native.Mathlib.Omega.{arith}
-use native.Mathlib.Nat.{mul-le-mul-right, mul-comm, zero-add}
+use native.Mathlib.Nat.{mul-le-mul-right, mul-comm}
 use lib.ListN.{length, getD, length-append}
 use lib.Dec.{leb, ltb, eqb, leb·zero}
 use borrow.Author.Tests.{eqb-true, eqb-false, le-leb}
@@ -15,8 +14,6 @@ use Rattle.record.proofs.Lists.{length-tabulate}
 use Rattle.screen.specs.Screen.{mainImage}
 use Rattle.screen.specs.declared.Screen.{Screen}
 use Rattle.command.specs.Command.{commandBytes, surfaceOf, mustBeZero, formed, insideImage, placed, lineWords, wordsTaken}
-use Rattle.command.specs.declared.Command.{Command}
-use Rattle.command.proofs.Bytes.{Storable}
 use Rattle.wear.specs.Font.{lastDigits, digitsOf, glyphOf}
 use Rattle.wear.specs.Strip.{columnHeight, glyphSize, fillAt, glyphAt, column, columns, writes, glyphWord, glyphWords, digitWords, digitsIn}
 use Rattle.wear.specs.Limits.{commandCount}
