@@ -68,7 +68,7 @@ module _ (u v : ℕ) where
       refl,
       not-covered (fillAt (a .x + c * a .column) (a .y) (a .column) columnHeight (a .background)) (λ p q r t. out p q r t),
       both-ways MissedBy (eqb h 0) [] (fillAt (a .x + c * a .column) (a .y + columnHeight - h) (a .column) h (a .bar) ∷ []) (λ e. tt)
-      (λ e. (refl, not-covered (fillAt (a .x + c * a .column) (a .y + columnHeight - h) (a .column) h (a .bar)) (λ p q r t. out p q (omega arith) (omega arith)), tt)),
+          (λ e. (refl, not-covered (fillAt (a .x + c * a .column) (a .y + columnHeight - h) (a .column) h (a .bar)) (λ p q r t. out p q (omega arith) (omega arith)), tt)),
     )
 
     pub columns-miss : (c : ℕ) (hs : List ℕ) → ((k : ℕ) → getD hs k 0 ≤ 100)

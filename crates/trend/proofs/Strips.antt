@@ -54,9 +54,9 @@ module _ (s : Screen) (narrow : mainImage s .width ≤ 1024) (short : mainImage 
           let ends : a .x + c * a .column + a .column ≤ mainImage s .width = omega (arith, mul-le-mul-right (a .column) k, right) in (
             fill-ok (a .x + c * a .column) (a .y) (a .column) columnHeight wide (omega arith) ends bottom (a .background) background background-low,
             both-ways (EachOk s) (eqb h 0) [] (fillAt (a .x + c * a .column) (a .y + columnHeight - h) (a .column) h (a .bar) ∷ []) (λ e. tt)
-            (λ e.
-            let some : 0 < h = omega (arith, eqb-false h 0 e) in
-            (fill-ok (a .x + c * a .column) (a .y + columnHeight - h) (a .column) h wide some ends (omega arith) (a .bar) bar bar-low, tt)),
+                (λ e.
+                let some : 0 < h = omega (arith, eqb-false h 0 e) in
+                (fill-ok (a .x + c * a .column) (a .y + columnHeight - h) (a .column) h wide some ends (omega arith) (a .bar) bar bar-low, tt)),
           )
 
       pub columns-ok : (c : ℕ) (hs : List ℕ) → c + length hs ≤ a .hours → ((k : ℕ) → getD hs k 0 ≤ 100) → EachOk s (columns a c hs)
