@@ -6,3 +6,4 @@ pub mod Columns
 pub mod Numbers
 pub mod Compiled
 pub mod Shown
+pub mod Cases
