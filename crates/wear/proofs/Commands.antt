@@ -20,7 +20,7 @@ use Rattle.command.proofs.Bytes.{Storable}
 use Rattle.wear.specs.Strip.{fillAt, glyphAt, column, columns, writes, listBytes, allInReach}
 use Rattle.wear.specs.Limits.{commandCount}
 use Rattle.wear.specs.declared.Ask.{Ask}
-use Rattle.wear.proofs.Lists.{length-command, length-list, list-append, reach-append}
+use Rattle.wear.proofs.Lists.{length-command, length-list, list-append, writes-count, reach-append}
 
 -- ---- a command's bytes
 -- four numbers, of four bytes each
@@ -35,6 +35,7 @@ sixteen-stored l at a b c d {l1} {l2} {l3} e f g h =
   where
     two : (at : ℕ) (l : List ℕ) (n m : ℕ) (k : ℕ) → k ≡ at + 4 → sets l at (fourBytes n ++ fourBytes m) ≡ sets (sets l at (fourBytes n)) k (fourBytes m)
     two at l n m k q = sets-append l at (fourBytes n) (fourBytes m) ∙ ap (λ (i : ℕ). sets (sets l at (fourBytes n)) i (fourBytes m)) (sym q)
+
     together : sets l at (sixteen a b c d) ≡ sets (sets (sets (sets l at (fourBytes a)) (at + 4) (fourBytes b)) (at + 8) (fourBytes c)) (at + 12) (fourBytes d)
     together =
         sets-append l at (fourBytes a) (fourBytes b ++ (fourBytes c ++ fourBytes d))
@@ -173,6 +174,7 @@ last-decides a i d (e ∷ ds) =
   where
     next : suc i + length ds ≡ i + suc (length ds)
     next = omega arith
+
     farther : (p y q : Bool) → (q ≡ true → p ≡ true) → (p && (y && (q && y))) ≡ (q && y)
     farther p y true f = rw (f refl) (twice y)
       where
@@ -195,6 +197,9 @@ writes-none a [] h = refl
 writes-none a (d ∷ ds) h = absurd (omega arith)
 
 -- ---- how many commands the columns have
+pub count-start : (heights : List ℕ) → commandCount heights ≡ 0 + commandCount heights
+count-start heights = omega arith
+
 pub count-step : (heights : List ℕ) (c n k : ℕ) → c < length heights → k ≡ cond (eqb (getD heights c 0) 0) 1 2
     → n + commandCount (drop c heights) ≡ (n + k) + commandCount (drop (c + 1) heights)
 unfolding commandCount
@@ -204,9 +209,12 @@ pub count-end : (heights : List ℕ) (c n : ℕ) → length heights ≤ c → n 
 unfolding commandCount
 count-end heights c n h = rw (drop-of-length-le heights {i = c} h) (omega arith)
 
-pub one-or-two : (t : Bool) (k : ℕ) → k ≡ cond t 1 2 → k ≤ 2
-one-or-two true k e = omega arith
-one-or-two false k e = omega arith
+pub one-or-two : (h k : ℕ) → k ≡ cond (eqb h 0) 1 2 → k ≤ 2
+one-or-two h k e = either (eqb h 0) e
+  where
+    either : (t : Bool) → k ≡ cond t 1 2 → k ≤ 2
+    either true q = omega arith
+    either false q = omega arith
 
 -- ---- storing a column
 module _ (a : Ask) (c h : ℕ) where
@@ -306,6 +314,10 @@ module _ (a : Ask) (digits : List ℕ) (at : ℕ) where
   written-start list e =
       let z : at ≡ at + 32 * 0 = omega arith in
       record { same = refl; stored = ap (λ (k : ℕ). sets list k (listBytes (writes a 0 digits))) z; reached = e }
+
+  -- what the room asked for comes to
+  pub written-room : (n : ℕ) → at + length (listBytes (writes a 0 digits)) ≤ n → at + 32 * length digits ≤ n
+  written-room n h = omega (arith, h, length-list (writes a 0 digits), writes-count a 0 digits)
 
   module _ (list₀ list : List ℕ) (i : ℕ) (g : Written a digits list₀ list at i) where
     module _ (l : i < length digits) where
