@@ -1,0 +1,2 @@
+pub mod Fonts
+pub mod Words

@@ -1,0 +1,101 @@
+use borrow.Author.Needs.{needs}
+use Rattle.wear_glyph.proofs.glyph.Statement.{statement}
+use Rattle.wear_glyph.proofs.glyph.Tie as tie
+use Rattle.wear_glyph.proofs.glyph.Reads as reads
+use Rattle.wear_glyph.proofs.glyph.Lts as lts
+use Rattle.wear_glyph.proofs.find_glyph.Reads as find-glyph-reads
+
+-- src/lib.rt:33:9
+find-glyph-requires : tie.Need-find-glyph-requires
+find-glyph-requires c κs = search needs
+
+-- src/lib.rt:35:27
+enum-known-found : tie.Need-enum-known-found
+enum-known-found c = search needs
+
+-- src/lib.rt:37:32
+add-result : tie.Need-add-result
+add-result c = ?
+
+-- src/lib.rt:37:20
+sub-result : tie.Need-sub-result
+sub-result c = search needs
+
+-- src/lib.rt:37:20
+part-result-start : tie.Need-part-result-start
+part-result-start c = search needs
+
+-- src/lib.rt:37:20
+part-result-end : tie.Need-part-result-end
+part-result-end c = ?
+
+-- src/lib.rt:37:13
+returns : tie.Need-returns
+returns c = ?
+
+-- src/lib.rt:39:30
+enum-known-found-2 : tie.Need-enum-known-found-2
+enum-known-found-2 c = search needs
+
+-- src/lib.rt:41:35
+add-result-2 : tie.Need-add-result-2
+add-result-2 c = ?
+
+-- src/lib.rt:41:20
+sub-result-2 : tie.Need-sub-result-2
+sub-result-2 c = search needs
+
+-- src/lib.rt:41:20
+part-result-start-2 : tie.Need-part-result-start-2
+part-result-start-2 c = search needs
+
+-- src/lib.rt:41:20
+part-result-end-2 : tie.Need-part-result-end-2
+part-result-end-2 c = ?
+
+-- src/lib.rt:41:13
+returns-2 : tie.Need-returns-2
+returns-2 c = ?
+
+-- src/lib.rt:44:20
+enum-told : tie.Need-enum-told
+enum-told c = search needs
+
+-- src/lib.rt:44:20
+sub-result-3 : tie.Need-sub-result-3
+sub-result-3 c = search needs
+
+-- src/lib.rt:44:20
+part-result-start-3 : tie.Need-part-result-start-3
+part-result-start-3 c = search needs
+
+-- src/lib.rt:44:20
+part-result-end-3 : tie.Need-part-result-end-3
+part-result-end-3 c = search needs
+
+-- src/lib.rt:44:13
+returns-3 : tie.Need-returns-3
+returns-3 c = ?
+
+pub glyph-spec : {M : Type 1} → statement M
+glyph-spec =
+    tie.close
+    (tie.spec
+    find-glyph-requires
+    enum-known-found
+    add-result
+    sub-result
+    part-result-start
+    part-result-end
+    returns
+    enum-known-found-2
+    add-result-2
+    sub-result-2
+    part-result-start-2
+    part-result-end-2
+    returns-2
+    enum-told
+    sub-result-3
+    part-result-start-3
+    part-result-end-3
+    returns-3)

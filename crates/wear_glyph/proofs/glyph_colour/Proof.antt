@@ -1,0 +1,34 @@
+use borrow.Author.Needs.{needs}
+use Rattle.wear_glyph.proofs.glyph_colour.Statement.{statement}
+use Rattle.wear_glyph.proofs.glyph_colour.Tie as tie
+use Rattle.wear_glyph.proofs.glyph_colour.Reads as reads
+use Rattle.wear_glyph.proofs.glyph_colour.Lts as lts
+use Rattle.record_code.proofs.wide.Reads as wide-reads
+
+-- src/lib.rt:109:33
+shared-slice-read-wide : tie.Need-shared-slice-read-wide
+shared-slice-read-wide c = search needs
+
+-- src/lib.rt:109:9
+wide-requires : tie.Need-wide-requires
+wide-requires c κs = search needs
+
+-- src/lib.rt:110:17
+sub-if1 : tie.Need-sub-if1
+sub-if1 c = search needs
+
+-- src/lib.rt:110:9
+shr-if1 : tie.Need-shr-if1
+shr-if1 c = search needs
+
+-- src/lib.rt:104:1
+returns : tie.Need-returns
+returns c = ?
+
+-- src/lib.rt:104:1
+returns-2 : tie.Need-returns-2
+returns-2 c = ?
+
+pub glyph-colour-spec : {M : Type 1} → statement M
+glyph-colour-spec =
+    tie.close (tie.spec shared-slice-read-wide wide-requires sub-if1 shr-if1 returns returns-2)

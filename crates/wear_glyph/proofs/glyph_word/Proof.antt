@@ -1,0 +1,91 @@
+use borrow.Author.Needs.{needs}
+use Rattle.wear_glyph.proofs.glyph_word.Statement.{statement}
+use Rattle.wear_glyph.proofs.glyph_word.Tie as tie
+use Rattle.wear_glyph.proofs.glyph_word.Reads as reads
+use Rattle.wear_glyph.proofs.glyph_word.Lts as lts
+use Rattle.wear_glyph.proofs.glyph_colour.Reads as glyph-colour-reads
+
+-- src/lib.rt:125:46
+cast-glyph-colour : tie.Need-cast-glyph-colour
+cast-glyph-colour c = search needs
+
+-- src/lib.rt:125:42
+mul-glyph-colour : tie.Need-mul-glyph-colour
+mul-glyph-colour c = search needs
+
+-- src/lib.rt:125:19
+glyph-colour-requires : tie.Need-glyph-colour-requires
+glyph-colour-requires c κs = ?
+
+-- src/lib.rt:125:19
+cast-low : tie.Need-cast-low
+cast-low c = search needs
+
+-- src/lib.rt:126:47
+cast-glyph-colour-2 : tie.Need-cast-glyph-colour-2
+cast-glyph-colour-2 c = search needs
+
+-- src/lib.rt:126:43
+mul-glyph-colour-2 : tie.Need-mul-glyph-colour-2
+mul-glyph-colour-2 c = search needs
+
+-- src/lib.rt:126:43
+add-glyph-colour : tie.Need-add-glyph-colour
+add-glyph-colour c = search needs
+
+-- src/lib.rt:126:20
+glyph-colour-requires-2 : tie.Need-glyph-colour-requires-2
+glyph-colour-requires-2 c κs = ?
+
+-- src/lib.rt:126:20
+cast-high : tie.Need-cast-high
+cast-high c = search needs
+
+-- src/lib.rt:127:23
+mul-result : tie.Need-mul-result
+mul-result c = search needs
+
+-- src/lib.rt:127:17
+add-result : tie.Need-add-result
+add-result c = search needs
+
+-- src/lib.rt:127:16
+cast-result : tie.Need-cast-result
+cast-result c = ?
+
+-- src/lib.rt:127:9
+returns : tie.Need-returns
+returns c = ?
+
+-- src/lib.rt:129:28
+cast-glyph-colour-3 : tie.Need-cast-glyph-colour-3
+cast-glyph-colour-3 c = search needs
+
+-- src/lib.rt:129:5
+glyph-colour-requires-3 : tie.Need-glyph-colour-requires-3
+glyph-colour-requires-3 c κs = ?
+
+-- src/lib.rt:118:1
+returns-2 : tie.Need-returns-2
+returns-2 c = ?
+
+pub glyph-word-spec : {M : Type 1} → statement M
+glyph-word-spec =
+    tie.close
+    (tie.spec
+    cast-glyph-colour
+    mul-glyph-colour
+    glyph-colour-requires
+    cast-low
+    cast-glyph-colour-2
+    mul-glyph-colour-2
+    add-glyph-colour
+    glyph-colour-requires-2
+    cast-high
+    mul-result
+    add-result
+    cast-result
+    returns
+    cast-glyph-colour-3
+    glyph-colour-requires-3
+    returns-2)

@@ -1,0 +1,74 @@
+use Rattle.wear_glyph.proofs.put_glyph.Statement.{statement}
+use Rattle.wear_glyph.proofs.put_glyph.Tie as tie
+use Rattle.wear_glyph.proofs.put_glyph.Reads as reads
+use Rattle.wear_glyph.proofs.put_glyph.Lts as lts
+use Rattle.wear_glyph.proofs.glyph_word.Reads as glyph-word-reads
+use Rattle.wear_glyph.proofs.words_per_glyph.Reads as words-per-glyph-reads
+
+abbrev Inv-loop : tie.InvT-loop
+Inv-loop words₀ at a glyph n k₀ words k = ?
+
+abbrev μ-loop : tie.MeasureT-loop
+μ-loop words₀ at a glyph n k₀ words k = ?
+
+-- src/lib.rt:146:9
+words-per-glyph-requires : tie.Need-words-per-glyph-requires Inv-loop μ-loop
+words-per-glyph-requires c κs = ?
+
+-- src/lib.rt:148:5
+loop-holds : tie.Need-loop-holds Inv-loop μ-loop
+loop-holds c = ?
+
+-- src/lib.rt:149:25
+glyph-word-requires : tie.Need-glyph-word-requires Inv-loop μ-loop
+glyph-word-requires c κs = ?
+
+-- src/lib.rt:149:15
+add-words : tie.Need-add-words Inv-loop μ-loop
+add-words c = ?
+
+-- src/lib.rt:149:9
+mul-words : tie.Need-mul-words Inv-loop μ-loop
+mul-words c = ?
+
+-- src/lib.rt:149:9
+slice-write-words : tie.Need-slice-write-words Inv-loop μ-loop
+slice-write-words c = ?
+
+-- src/lib.rt:150:9
+add-k : tie.Need-add-k Inv-loop μ-loop
+add-k c = ?
+
+-- src/lib.rt:148:5
+loop-less : tie.Need-loop-less Inv-loop μ-loop
+loop-less c = ?
+
+-- src/lib.rt:148:5
+loop-again : tie.Need-loop-again Inv-loop μ-loop
+loop-again c = ?
+
+-- src/lib.rt:140:1
+same-length : tie.Need-same-length Inv-loop μ-loop
+same-length c = ?
+
+-- src/lib.rt:140:1
+returns : tie.Need-returns Inv-loop μ-loop
+returns c = ?
+
+pub put-glyph-spec : {M : Type 1} → statement M
+put-glyph-spec =
+    tie.close
+    (tie.spec
+    Inv-loop
+    μ-loop
+    words-per-glyph-requires
+    loop-holds
+    glyph-word-requires
+    add-words
+    mul-words
+    slice-write-words
+    add-k
+    loop-less
+    loop-again
+    same-length
+    returns)

@@ -1,0 +1,15 @@
+use Rattle.wear_glyph.proofs.words_per_glyph.Statement.{statement}
+use Rattle.wear_glyph.proofs.words_per_glyph.Tie as tie
+use Rattle.wear_glyph.proofs.words_per_glyph.Reads as reads
+use Rattle.wear_glyph.proofs.words_per_glyph.Lts as lts
+
+-- src/lib.rt:133:1
+returns : tie.Need-returns
+returns c = ?
+
+-- src/lib.rt:133:1
+returns-2 : tie.Need-returns-2
+returns-2 c = ?
+
+pub words-per-glyph-spec : {M : Type 1} → statement M
+words-per-glyph-spec = tie.close (tie.spec returns returns-2)
