@@ -1,17 +1,18 @@
 -- Laws of a glyph's host words: how many they are, a word by the colours of its pixels, and storing them.
-use Prim.Native.Nat.{ℕ, zero, suc, _+_, _*_, _/_, _%_, _<_, _≤_}
+use Prim.Native.Nat.{ℕ, zero, suc, _+_, _-_, _*_, _/_, _%_, _^_, _<_, _≤_}
 use mathlib.Core.Path.{_≡_, refl, sym, ap, _∙_}
 use mathlib.Core.List.{List, [], _∷_, _++_}
-use native.Mathlib.Nat.{zero-add, add-zero, suc-mul, mul-comm, mul-suc, mul-le-mul-right}
+use native.Mathlib.Nat.{zero-mul, mul-zero, suc-mul, mul-comm, mul-suc, mul-le-mul-left}
 use native.Mathlib.Numerals.{add-one}
 use native.Mathlib.Omega.{arith}
-use lib.ListN.{length, getD, set, drop, length-append, length-drop}
+use lib.ListN.{length, getD, set, drop, length-append}
 use lib.Seq.{sets, length-sets, drop-cons}
 use lib.Dec.{eqb}
 use borrow.Author.Tests.{eq-eqb, ne-eqb}
 use Rattle.record.specs.Bytes.{byteAt}
 use Rattle.record.specs.Lists.{tabulate}
 use Rattle.record.proofs.Lists.{length-tabulate}
+use Rattle.record.proofs.Choice.{both-ways}
 use Rattle.record.proofs.Stores.{sets-append}
 use Rattle.command.specs.Command.{lineWords}
 use Rattle.wear.specs.Font.{glyphOf, glyphBit}
@@ -93,6 +94,12 @@ module _ (a : Ask) (g : List ℕ) (at n : ℕ) (old l : List ℕ) where
       let q : k ≡ 8 * lineWords (a .depth) 8 = omega (arith, p .within) in
       p .stored ∙ ap (λ (x : ℕ). sets old at (tabulate x (glyphWord a g))) q
 
+drop-past : (i : ℕ) (l : List ℕ) → length l ≤ i → drop i l ≡ []
+drop-past zero [] h = refl
+drop-past (suc i) [] h = refl
+drop-past zero (x ∷ l) h = absurd (omega arith)
+drop-past (suc i) (x ∷ l) h = drop-past i l (omega arith)
+
 -- digits from digit i on are left to store
 pub record Digiting (a : Ask) (site factory ds : List ℕ) (n : ℕ) (old l : List ℕ) (i : ℕ) : Type 0 where
   pub within : i ≤ length ds
@@ -108,17 +115,23 @@ module _ (a : Ask) (site factory ds : List ℕ) (n : ℕ) (old : List ℕ) (e : 
   digit-fits l i p h w =
       omega (arith, p .same, digit-words-count a site factory ds, mul-comm (length ds) n, ap (λ (x : ℕ). length ds * x) e, mul-le-mul-left n h, mul-suc n i)
 
+  -- the next digit's words of those that are left
+  next-digit : (l : List ℕ) (i : ℕ) → i < length ds → sets l (n * i) (digitWords a site factory (drop i ds)) ≡ sets (sets l (n * i) (glyphWords a (glyphOf site factory (getD ds i 0)))) (n * (i + 1)) (digitWords a site factory (drop (i + 1) ds))
+  unfolding digitWords
+  next-digit l i h =
+      let w = glyphWords a (glyphOf site factory (getD ds i 0)) in
+      let q : n * i + length w ≡ n * suc i = ap (λ (x : ℕ). n * i + x) (glyph-words-count a (glyphOf site factory (getD ds i 0)) ∙ sym e) ∙ sym (mul-suc n i) in
+      rw (add-one, drop-cons ds i 0 h)
+      (sets-append l (n * i) w (digitWords a site factory (drop (suc i) ds)) ∙ ap (λ (x : ℕ). sets (sets l (n * i) w) x (digitWords a site factory (drop (suc i) ds))) q)
+
   pub digit-turn : (l new : List ℕ) (i : ℕ) → Digiting a site factory ds n old l i → i < length ds → new ≡ sets l (n * i) (glyphWords a (glyphOf site factory (getD ds i 0))) → Digiting a site factory ds n old new (i + 1)
   digit-turn l new i p h q =
       record {
         within = omega arith;
         same = ap (λ (x : List ℕ). length x) q ∙ length-sets l (n * i) (glyphWords a (glyphOf site factory (getD ds i 0))) ∙ p .same;
-        left = more ∙ p .left;
+        left = ap (λ (x : List ℕ). sets x (n * (i + 1)) (digitWords a site factory (drop (i + 1) ds))) q ∙ sym (next-digit l i h) ∙ p .left;
       }
-    where
-      w : List ℕ
-      w = glyphWords a (glyphOf site factory (getD ds i 0))
 
   pub digit-end : (l : List ℕ) (i : ℕ) → Digiting a site factory ds n old l i → length ds ≤ i → l ≡ sets old 0 (digitWords a site factory ds)
   unfolding digitWords
-  digit-end l i p h = rw (drop-all i ds h) at (p .left)
+  digit-end l i p h = rw (drop-past i ds h) at (p .left)
