@@ -1,15 +1,15 @@
 -- Laws of fonts: which one a glyph is lent from and where its part ends, the bytes of a glyph, and a number's digits.
-use Prim.Native.Nat.{ℕ, zero, suc, _+_, _*_, _/_, _%_, _<_, _≤_}
+use Prim.Native.Nat.{ℕ, zero, suc, _+_, _-_, _*_, _/_, _%_, _<_, _≤_}
 use mathlib.Core.Path.{_≡_, refl, sym, ap, subst, _∙_}
 use mathlib.Core.Bool.{Bool, true, false, _||_, cond}
 use mathlib.Core.List.{List, [], _∷_, _++_}
 use mathlib.Core.Logic.{⊎-elim}
-use native.Mathlib.Nat.{le-of-suc-le-suc}
+use native.Mathlib.Nat.{add-sub-cancel-left}
 use native.Mathlib.Omega.{arith}
 use denote.Ref.{RefT, ptr, now}
 use lib.ListN.{length, getD, take, drop, length-append, length-take, length-drop}
 use lib.Dec.{leb, ltb, eqb}
-use borrow.Author.Tests.{leb-true, leb-false, ltb-false, le-leb, lt-leb, lt-ltb, le-ltb}
+use borrow.Author.Tests.{leb-true, ltb-false, le-leb, lt-leb, lt-ltb, le-ltb}
 use Rattle.record.specs.Part.{IsPart}
 use Rattle.record.proofs.Choice.{below-or-not, both-ways}
 use Rattle.wear.specs.Font.{Finding, finding, findingOf, fontOf, GlyphPart, glyphOf, lastDigits, digitsOf}
@@ -71,6 +71,11 @@ factory-ends site factory digit at e =
     omega (arith, ltb-false factory 80 (or-left (ltb factory 80) (ltb 9 digit) (h .0)), ltb-false 9 digit (or-right (ltb factory 80) (ltb 9 digit) (h .0)), h .1)
 
 -- ---- the part of an answer
+-- the eight bytes from `at` on
+pub eight-bytes : (font r : RefT (List ℕ)) (at : ℕ) → ptr r ≡ (ptr font .0, at + ptr font .1) → now r ≡ take (at + 8 - at) (drop at (now font)) → IsPart font r at 8
+eight-bytes font r at p q =
+    record { place = p; bytes = q ∙ ap (λ (k : ℕ). take k (drop at (now font))) (add-sub-cancel-left at 8) }
+
 module _ (site factory r : RefT (List ℕ)) (f : Finding) where
   pub site-part : (at : ℕ) → findingOf (Site at) ≡ f → IsPart site r at 8 → GlyphPart site factory r f
   unfolding findingOf

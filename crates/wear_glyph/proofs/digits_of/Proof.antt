@@ -1,3 +1,5 @@
+use native.Mathlib.Omega.{arith}
+use Rattle.wear.proofs.Fonts.{digits-one, digits-two, digits-three, digits-four, digits-five}
 use borrow.Author.Needs.{needs}
 use Rattle.wear_glyph.proofs.digits_of.Statement.{statement}
 use Rattle.wear_glyph.proofs.digits_of.Tie as tie
@@ -26,23 +28,23 @@ cast-highest c = search needs
 
 -- src/lib.rt:60:9
 returns : tie.Need-returns
-returns c = ?
+returns c = (digits-one _ (c .if1 .taken), omega arith)
 
 -- src/lib.rt:66:9
 returns-2 : tie.Need-returns-2
-returns-2 c = ?
+returns-2 c = (digits-two _ (omega arith) (omega arith), omega arith)
 
 -- src/lib.rt:72:9
 returns-3 : tie.Need-returns-3
-returns-3 c = ?
+returns-3 c = (digits-three _ (omega arith) (omega arith), omega arith)
 
 -- src/lib.rt:78:9
 returns-4 : tie.Need-returns-4
-returns-4 c = ?
+returns-4 c = (digits-four _ (omega arith) (omega arith), omega arith)
 
 -- src/lib.rt:50:1
 returns-5 : tie.Need-returns-5
-returns-5 c = ?
+returns-5 c = (digits-five _ (omega arith) (omega arith), omega arith)
 
 pub digits-of-spec : {M : Type 1} → statement M
 digits-of-spec =

@@ -1,3 +1,5 @@
+use native.Mathlib.Omega.{arith}
+use Rattle.wear.proofs.Fonts.{found-none, found-site, found-factory}
 use borrow.Author.Needs.{needs}
 use Rattle.wear_glyph.proofs.find_glyph.Statement.{statement}
 use Rattle.wear_glyph.proofs.find_glyph.Tie as tie
@@ -6,7 +8,7 @@ use Rattle.wear_glyph.proofs.find_glyph.Lts as lts
 
 -- src/lib.rt:20:9
 returns : tie.Need-returns
-returns c = ?
+returns c = found-none _ _ _ (c .if1 .taken)
 
 -- src/lib.rt:22:14
 mul-at : tie.Need-mul-at
@@ -18,11 +20,11 @@ add-if2 c = search needs
 
 -- src/lib.rt:24:9
 returns-2 : tie.Need-returns-2
-returns-2 c = ?
+returns-2 c = found-site _ _ _ (c .before .if1 .left) (omega arith)
 
 -- src/lib.rt:16:1
 returns-3 : tie.Need-returns-3
-returns-3 c = ?
+returns-3 c = found-factory _ _ _ (c .before .if1 .left) (omega arith)
 
 pub find-glyph-spec : {M : Type 1} → statement M
 find-glyph-spec = tie.close (tie.spec returns mul-at add-if2 returns-2 returns-3)

@@ -1,3 +1,4 @@
+use Rattle.wear.proofs.Words.{colour-bar, colour-background}
 use borrow.Author.Needs.{needs}
 use Rattle.wear_glyph.proofs.glyph_colour.Statement.{statement}
 use Rattle.wear_glyph.proofs.glyph_colour.Tie as tie
@@ -23,11 +24,11 @@ shr-if1 c = search needs
 
 -- src/lib.rt:104:1
 returns : tie.Need-returns
-returns c = ?
+returns c = colour-bar _ _ _ _ (c .before .wide .result) (c .before .wide .ensures .0) (c .if1 .taken)
 
 -- src/lib.rt:104:1
 returns-2 : tie.Need-returns-2
-returns-2 c = ?
+returns-2 c = colour-background _ _ _ _ (c .before .wide .result) (c .before .wide .ensures .0) (c .if1 .left)
 
 pub glyph-colour-spec : {M : Type 1} → statement M
 glyph-colour-spec =

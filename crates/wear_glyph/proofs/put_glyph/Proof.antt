@@ -1,3 +1,9 @@
+use borrow.Author.Needs.{needs}
+use Prim.Native.Nat.{_+_, _-_, _*_, _≤_}
+use mathlib.Core.Path.{_≡_}
+use native.Mathlib.Omega.{arith}
+use Rattle.command.specs.Command.{lineWords}
+use Rattle.wear.proofs.Words.{Glyphing, glyph-start, glyph-turn, glyph-end}
 use Rattle.wear_glyph.proofs.put_glyph.Statement.{statement}
 use Rattle.wear_glyph.proofs.put_glyph.Tie as tie
 use Rattle.wear_glyph.proofs.put_glyph.Reads as reads
@@ -6,14 +12,14 @@ use Rattle.wear_glyph.proofs.glyph_word.Reads as glyph-word-reads
 use Rattle.wear_glyph.proofs.words_per_glyph.Reads as words-per-glyph-reads
 
 abbrev Inv-loop : tie.InvT-loop
-Inv-loop words₀ at a glyph n k₀ words k = ?
+Inv-loop words₀ at a glyph n k₀ words k = (n ≡ 8 * lineWords (a .depth) 8) × Glyphing a glyph at n words₀ words k
 
 abbrev μ-loop : tie.MeasureT-loop
-μ-loop words₀ at a glyph n k₀ words k = ?
+μ-loop words₀ at a glyph n k₀ words k = n - k
 
 -- src/lib.rt:146:9
 words-per-glyph-requires : tie.Need-words-per-glyph-requires Inv-loop μ-loop
-words-per-glyph-requires c κs = ?
+words-per-glyph-requires c κs = search needs
 
 -- src/lib.rt:148:5
 loop-holds : tie.Need-loop-holds Inv-loop μ-loop
@@ -21,27 +27,27 @@ loop-holds c = ?
 
 -- src/lib.rt:149:25
 glyph-word-requires : tie.Need-glyph-word-requires Inv-loop μ-loop
-glyph-word-requires c κs = ?
+glyph-word-requires c κs = search needs
 
 -- src/lib.rt:149:15
 add-words : tie.Need-add-words Inv-loop μ-loop
-add-words c = ?
+add-words c = search needs
 
 -- src/lib.rt:149:9
 mul-words : tie.Need-mul-words Inv-loop μ-loop
-mul-words c = ?
+mul-words c = search needs
 
 -- src/lib.rt:149:9
 slice-write-words : tie.Need-slice-write-words Inv-loop μ-loop
-slice-write-words c = ?
+slice-write-words c = search needs
 
 -- src/lib.rt:150:9
 add-k : tie.Need-add-k Inv-loop μ-loop
-add-k c = ?
+add-k c = search needs
 
 -- src/lib.rt:148:5
 loop-less : tie.Need-loop-less Inv-loop μ-loop
-loop-less c = ?
+loop-less c = search needs
 
 -- src/lib.rt:148:5
 loop-again : tie.Need-loop-again Inv-loop μ-loop
@@ -49,7 +55,7 @@ loop-again c = ?
 
 -- src/lib.rt:140:1
 same-length : tie.Need-same-length Inv-loop μ-loop
-same-length c = ?
+same-length c = search needs
 
 -- src/lib.rt:140:1
 returns : tie.Need-returns Inv-loop μ-loop
