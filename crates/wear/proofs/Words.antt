@@ -76,10 +76,10 @@ pub record Glyphing (a : Ask) (g : List ℕ) (at n : ℕ) (old l : List ℕ) (k 
   pub same : length l ≡ length old
   pub stored : l ≡ sets old at (tabulate k (glyphWord a g))
 
-module _ (a : Ask) (g : List ℕ) (at n : ℕ) (old l : List ℕ) where
-  pub glyph-start : Glyphing a g at n old old 0
-  glyph-start = record { within = omega arith; same = refl; stored = refl }
+pub glyph-start : (a : Ask) (g : List ℕ) (at n : ℕ) (old : List ℕ) → Glyphing a g at n old old 0
+glyph-start a g at n old = record { within = omega arith; same = refl; stored = refl }
 
+module _ (a : Ask) (g : List ℕ) (at n : ℕ) (old l : List ℕ) where
   pub glyph-turn : (k v : ℕ) → Glyphing a g at n old l k → k < n → v ≡ glyphWord a g k → Glyphing a g at n old (set l (at + k) v) (k + 1)
   glyph-turn k v p h e =
       record {

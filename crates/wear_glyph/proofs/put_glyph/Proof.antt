@@ -1,8 +1,6 @@
 use borrow.Author.Needs.{needs}
 use Prim.Native.Nat.{_+_, _-_, _*_, _≤_}
-use mathlib.Core.Path.{_≡_}
 use native.Mathlib.Omega.{arith}
-use Rattle.command.specs.Command.{lineWords}
 use Rattle.wear.proofs.Words.{Glyphing, glyph-start, glyph-turn, glyph-end}
 use Rattle.wear_glyph.proofs.put_glyph.Statement.{statement}
 use Rattle.wear_glyph.proofs.put_glyph.Tie as tie
@@ -12,7 +10,7 @@ use Rattle.wear_glyph.proofs.glyph_word.Reads as glyph-word-reads
 use Rattle.wear_glyph.proofs.words_per_glyph.Reads as words-per-glyph-reads
 
 abbrev Inv-loop : tie.InvT-loop
-Inv-loop words₀ at a glyph n k₀ words k = (n ≡ 8 * lineWords (a .depth) 8) × Glyphing a glyph at n words₀ words k
+Inv-loop words₀ at a glyph n k₀ words k = Glyphing a glyph at n words₀ words k
 
 abbrev μ-loop : tie.MeasureT-loop
 μ-loop words₀ at a glyph n k₀ words k = n - k
@@ -23,7 +21,7 @@ words-per-glyph-requires c κs = search needs
 
 -- src/lib.rt:148:5
 loop-holds : tie.Need-loop-holds Inv-loop μ-loop
-loop-holds c = ?
+loop-holds c = glyph-start _ _ _ _ _
 
 -- src/lib.rt:149:25
 glyph-word-requires : tie.Need-glyph-word-requires Inv-loop μ-loop
@@ -51,7 +49,7 @@ loop-less c = search needs
 
 -- src/lib.rt:148:5
 loop-again : tie.Need-loop-again Inv-loop μ-loop
-loop-again c = ?
+loop-again c = let l = c .before .before .loop in glyph-turn _ _ _ _ _ (l .words) (l .k) _ (l .inv) (c .before .loop-test .taken) (c .glyph-word .ensures)
 
 -- src/lib.rt:140:1
 same-length : tie.Need-same-length Inv-loop μ-loop
@@ -59,7 +57,7 @@ same-length c = search needs
 
 -- src/lib.rt:140:1
 returns : tie.Need-returns Inv-loop μ-loop
-returns c = ?
+returns c = let l = c .before .loop in glyph-end _ _ _ _ _ (l .words) (l .k) (l .inv) (c .loop-test .left) (c .before .before .words-per-glyph .ensures)
 
 pub put-glyph-spec : {M : Type 1} → statement M
 put-glyph-spec =
