@@ -12,7 +12,7 @@ use lib.Dec.{leb, ltb, eqb}
 use borrow.Author.Tests.{leb-true, ltb-false, le-leb, lt-leb, lt-ltb, le-ltb}
 use Rattle.record.specs.Part.{IsPart}
 use Rattle.record.proofs.Choice.{below-or-not, both-ways}
-use Rattle.wear.specs.Font.{Finding, finding, findingOf, fontOf, GlyphPart, glyphOf, lastDigits, digitsOf}
+use Rattle.wear.specs.Font.{Finding, finding, findingOf, GlyphPart, glyphOf, lastDigits, digitsOf}
 use Rattle.wear.specs.declared.GlyphAnswer.the-variants.{Site, Factory, Refused}
 
 -- ---- the answers

@@ -5,19 +5,13 @@ use Rattle.record.proofs.Choice.{yes, no}
 use borrow.Author.Needs.{needs}
 use Rattle.wear_glyph.proofs.digits_in.Statement.{statement}
 use Rattle.wear_glyph.proofs.digits_in.Tie as tie
-use Rattle.wear_glyph.proofs.digits_in.Reads as reads
-use Rattle.wear_glyph.proofs.digits_in.Lts as lts
-use Rattle.wear_glyph.proofs.digits_of.Reads as digits-of-reads
 
--- src/lib.rt:95:9
 returns : tie.Need-returns
 returns c = (yes _ (eq-eqb _ _ (c .if1 .taken)) refl, omega arith)
 
--- src/lib.rt:100:5
 digits-of-requires : tie.Need-digits-of-requires
 digits-of-requires c κs = search needs
 
--- src/lib.rt:90:1
 returns-2 : tie.Need-returns-2
 returns-2 c = (no _ (ne-eqb _ _ (c .before .if1 .left)) (c .digits-of .ensures .0), c .digits-of .ensures .1)
 

@@ -3,26 +3,19 @@ use Rattle.wear.proofs.Fonts.{found-none, found-site, found-factory}
 use borrow.Author.Needs.{needs}
 use Rattle.wear_glyph.proofs.find_glyph.Statement.{statement}
 use Rattle.wear_glyph.proofs.find_glyph.Tie as tie
-use Rattle.wear_glyph.proofs.find_glyph.Reads as reads
-use Rattle.wear_glyph.proofs.find_glyph.Lts as lts
 
--- src/lib.rt:20:9
 returns : tie.Need-returns
 returns c = found-none _ _ _ (c .if1 .taken)
 
--- src/lib.rt:22:14
 mul-at : tie.Need-mul-at
 mul-at c = search needs
 
--- src/lib.rt:23:8
 add-if2 : tie.Need-add-if2
 add-if2 c = search needs
 
--- src/lib.rt:24:9
 returns-2 : tie.Need-returns-2
 returns-2 c = found-site _ _ _ (c .before .if1 .left) (omega arith)
 
--- src/lib.rt:16:1
 returns-3 : tie.Need-returns-3
 returns-3 c = found-factory _ _ _ (c .before .if1 .left) (omega arith)
 

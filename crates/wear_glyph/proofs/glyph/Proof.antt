@@ -1,7 +1,6 @@
-use Prim.Native.Nat.{_+_}
 use lib.ListN.{length}
 use Rattle.wear.specs.Font.{finding, findingOf}
-use Rattle.wear.specs.declared.GlyphAnswer.the-variants.{Site, Factory, Refused}
+use Rattle.wear.specs.declared.GlyphAnswer.the-variants.{Site, Factory}
 use Rattle.wear.specs.declared.GlyphAnswer.{GlyphAnswer}
 use native.Mathlib.Omega.{arith}
 use mathlib.Core.Path.{refl, _≡_, sym, ap, _∙_}
@@ -9,9 +8,6 @@ use Rattle.wear.proofs.Fonts.{site-ends, factory-ends, site-part, factory-part,
 use borrow.Author.Needs.{needs}
 use Rattle.wear_glyph.proofs.glyph.Statement.{statement}
 use Rattle.wear_glyph.proofs.glyph.Tie as tie
-use Rattle.wear_glyph.proofs.glyph.Reads as reads
-use Rattle.wear_glyph.proofs.glyph.Lts as lts
-use Rattle.wear_glyph.proofs.find_glyph.Reads as find-glyph-reads
 
 -- the answer's variant is the finding
 site-found : (c : tie.After-known-told) → findingOf (Site (c .before .found .given .0 .0)) ≡ finding (length (c .before .before .before .before .before .before .args .site .now)) (length (c .before .before .before .before .before .before .args .factory .now)) (c .before .before .before .before .before .before .args .digit)
@@ -20,75 +16,57 @@ site-found c = ap (λ (x : GlyphAnswer). findingOf x) (sym (c .before .found .gi
 factory-found : (c : tie.After-known-told2) → findingOf (Factory (c .before .found2 .given .0 .0)) ≡ finding (length (c .before .before .before .before .before .before .args .site .now)) (length (c .before .before .before .before .before .before .args .factory .now)) (c .before .before .before .before .before .before .args .digit)
 factory-found c = ap (λ (x : GlyphAnswer). findingOf x) (sym (c .before .found2 .given .1)) ∙ c .before .before .before .find-glyph .ensures
 
--- src/lib.rt:33:9
 find-glyph-requires : tie.Need-find-glyph-requires
 find-glyph-requires c κs = search needs
 
--- src/lib.rt:35:27
 enum-known-found : tie.Need-enum-known-found
 enum-known-found c = search needs
 
--- src/lib.rt:37:32
 add-result : tie.Need-add-result
 add-result c = omega (arith, site-ends _ _ _ _ (site-found c))
 
--- src/lib.rt:37:20
 sub-result : tie.Need-sub-result
 sub-result c = search needs
 
--- src/lib.rt:37:20
 part-result-start : tie.Need-part-result-start
 part-result-start c = search needs
 
--- src/lib.rt:37:20
 part-result-end : tie.Need-part-result-end
 part-result-end c = omega (arith, site-ends _ _ _ _ (site-found c))
 
--- src/lib.rt:37:13
 returns : tie.Need-returns
 returns c = site-part _ _ _ _ _ (site-found (c .before)) (eight-bytes _ _ _ refl refl)
 
--- src/lib.rt:39:30
 enum-known-found-2 : tie.Need-enum-known-found-2
 enum-known-found-2 c = search needs
 
--- src/lib.rt:41:35
 add-result-2 : tie.Need-add-result-2
 add-result-2 c = omega (arith, factory-ends _ _ _ _ (factory-found c))
 
--- src/lib.rt:41:20
 sub-result-2 : tie.Need-sub-result-2
 sub-result-2 c = search needs
 
--- src/lib.rt:41:20
 part-result-start-2 : tie.Need-part-result-start-2
 part-result-start-2 c = search needs
 
--- src/lib.rt:41:20
 part-result-end-2 : tie.Need-part-result-end-2
 part-result-end-2 c = omega (arith, factory-ends _ _ _ _ (factory-found c))
 
--- src/lib.rt:41:13
 returns-2 : tie.Need-returns-2
 returns-2 c = factory-part _ _ _ _ _ (factory-found (c .before)) (eight-bytes _ _ _ refl refl)
 
--- src/lib.rt:44:20
 enum-told : tie.Need-enum-told
 enum-told c = search needs
 
--- src/lib.rt:44:20
 sub-result-3 : tie.Need-sub-result-3
 sub-result-3 c = search needs
 
--- src/lib.rt:44:20
 part-result-start-3 : tie.Need-part-result-start-3
 part-result-start-3 c = search needs
 
--- src/lib.rt:44:20
 part-result-end-3 : tie.Need-part-result-end-3
 part-result-end-3 c = search needs
 
--- src/lib.rt:44:13
 returns-3 : tie.Need-returns-3
 returns-3 c = no-part _ _ _ _ _ (ap (λ (x : GlyphAnswer). findingOf x) (sym (c .before .enum-told .given .1)) ∙ c .before .before .before .find-glyph .ensures) (record { place = refl; bytes = refl })
 

@@ -2,31 +2,22 @@ use Rattle.wear.proofs.Words.{colour-bar, colour-background}
 use borrow.Author.Needs.{needs}
 use Rattle.wear_glyph.proofs.glyph_colour.Statement.{statement}
 use Rattle.wear_glyph.proofs.glyph_colour.Tie as tie
-use Rattle.wear_glyph.proofs.glyph_colour.Reads as reads
-use Rattle.wear_glyph.proofs.glyph_colour.Lts as lts
-use Rattle.record_code.proofs.wide.Reads as wide-reads
 
--- src/lib.rt:109:33
 shared-slice-read-wide : tie.Need-shared-slice-read-wide
 shared-slice-read-wide c = search needs
 
--- src/lib.rt:109:9
 wide-requires : tie.Need-wide-requires
 wide-requires c κs = search needs
 
--- src/lib.rt:110:17
 sub-if1 : tie.Need-sub-if1
 sub-if1 c = search needs
 
--- src/lib.rt:110:9
 shr-if1 : tie.Need-shr-if1
 shr-if1 c = search needs
 
--- src/lib.rt:104:1
 returns : tie.Need-returns
 returns c = colour-bar _ _ _ _ (c .before .wide .result) (c .before .wide .ensures .0) (c .if1 .taken)
 
--- src/lib.rt:104:1
 returns-2 : tie.Need-returns-2
 returns-2 c = colour-background _ _ _ _ (c .before .wide .result) (c .before .wide .ensures .0) (c .if1 .left)
 

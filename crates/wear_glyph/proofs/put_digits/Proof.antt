@@ -1,65 +1,66 @@
+use mathlib.Core.Path.{_≡_, ap, _∙_}
+use Rattle.wear.specs.Font.{glyphOf}
+use Rattle.wear.proofs.Fonts.{part-holds, glyph-whole}
+use borrow.Author.Needs.{needs}
+use Prim.Native.Nat.{_+_, _-_, _*_, _≤_, ℕ}
+use native.Mathlib.Omega.{arith}
+use lib.ListN.{length, getD}
+use Rattle.wear.proofs.Words.{Digiting, digit-start, digit-fits, digit-turn, digit-end}
 use Rattle.wear_glyph.proofs.put_digits.Statement.{statement}
 use Rattle.wear_glyph.proofs.put_digits.Tie as tie
-use Rattle.wear_glyph.proofs.put_digits.Reads as reads
-use Rattle.wear_glyph.proofs.put_digits.Lts as lts
-use Rattle.record_code.proofs.wide.Reads as wide-reads
-use Rattle.wear_glyph.proofs.glyph.Reads as glyph-reads
-use Rattle.wear_glyph.proofs.put_glyph.Reads as put-glyph-reads
-use Rattle.wear_glyph.proofs.words_per_glyph.Reads as words-per-glyph-reads
 
 abbrev Inv-loop : tie.InvT-loop
-Inv-loop words₀ a site factory digits n i₀ words i = ?
+Inv-loop words₀ a site factory digits n i₀ words i = Digiting a site factory digits n words₀ words i
 
 abbrev μ-loop : tie.MeasureT-loop
-μ-loop words₀ a site factory digits n i₀ words i = ?
+μ-loop words₀ a site factory digits n i₀ words i = length digits - i
 
--- src/lib.rt:162:9
+-- the glyph that is lent holds the digit's bytes
+lent : (c : tie.After-glyph Inv-loop μ-loop) → c .glyph .result .now ≡ glyphOf (c .before .before .before .before .before .before .before .before .before .before .args .site .now) (c .before .before .before .before .before .before .before .before .before .before .args .factory .now) (getD (c .before .before .before .before .before .before .before .before .before .before .args .digits .now) (c .before .before .before .before .loop .i) 0)
+lent c = part-holds _ _ _ _ (c .glyph .ensures) ∙ ap (λ (d : ℕ). glyphOf (c .before .before .before .before .before .before .before .before .before .before .args .site .now) (c .before .before .before .before .before .before .before .before .before .before .args .factory .now) d) (c .before .wide .ensures .0)
+
+-- its words end in the buffer
+ends : (c : tie.After-glyph Inv-loop μ-loop) → c .before .before .before .before .before .words-per-glyph .result * c .before .before .before .before .loop .i + c .before .before .before .before .before .words-per-glyph .result ≤ length (c .before .before .before .before .loop .words)
+ends c =
+    let s = c .before .before .before .before .before .before .before .before .before .before in
+    let l = c .before .before .before .before .loop in
+    digit-fits _ (s .args .site .now) (s .args .factory .now) _ _ _ (c .before .before .before .before .before .words-per-glyph .ensures) (l .words) (l .i) (l .inv) (c .before .before .before .loop-test .taken) (s .pre .1 .1 .1)
+
 words-per-glyph-requires : tie.Need-words-per-glyph-requires Inv-loop μ-loop
-words-per-glyph-requires c κs = ?
+words-per-glyph-requires c κs = search needs
 
--- src/lib.rt:164:5
 loop-holds : tie.Need-loop-holds Inv-loop μ-loop
-loop-holds c = ?
+loop-holds c = digit-start _ _ _ _ _ _ (c .words-per-glyph .ensures)
 
--- src/lib.rt:165:56
 shared-slice-read-wide : tie.Need-shared-slice-read-wide Inv-loop μ-loop
-shared-slice-read-wide c = ?
+shared-slice-read-wide c = search needs
 
--- src/lib.rt:165:38
 wide-requires : tie.Need-wide-requires Inv-loop μ-loop
-wide-requires c κs = ?
+wide-requires c κs = search needs
 
--- src/lib.rt:165:13
 glyph-requires : tie.Need-glyph-requires Inv-loop μ-loop
-glyph-requires c κs = ?
+glyph-requires c κs = search needs
 
--- src/lib.rt:166:26
 mul-put-glyph : tie.Need-mul-put-glyph Inv-loop μ-loop
-mul-put-glyph c = ?
+mul-put-glyph c = omega (arith, ends (c .before))
 
--- src/lib.rt:166:9
 put-glyph-requires : tie.Need-put-glyph-requires Inv-loop μ-loop
-put-glyph-requires c κs = ?
+put-glyph-requires c κs = let s = c .before .before .before .before .before .before .before .before .before .before .before in (s .pre .0, (rw (lent (c .before)) (glyph-whole _ _ _ (s .pre .1 .0) (s .pre .1 .1 .0 _)), omega (arith, ends (c .before), c .before .before .before .before .before .before .words-per-glyph .ensures)))
 
--- src/lib.rt:167:9
 add-i : tie.Need-add-i Inv-loop μ-loop
-add-i c = ?
+add-i c = search needs
 
--- src/lib.rt:164:5
 loop-less : tie.Need-loop-less Inv-loop μ-loop
-loop-less c = ?
+loop-less c = search needs
 
--- src/lib.rt:164:5
 loop-again : tie.Need-loop-again Inv-loop μ-loop
-loop-again c = ?
+loop-again c = let l = c .before .before .before .before .before .before .before .before .loop in digit-turn _ _ _ _ _ _ (c .before .before .before .before .before .before .before .before .before .words-per-glyph .ensures) (l .words) _ (l .i) (l .inv) (c .before .before .before .before .before .before .before .loop-test .taken) (rw (lent (c .before .before .before .before)) at (c .before .before .put-glyph .ensures))
 
--- src/lib.rt:155:1
 same-length : tie.Need-same-length Inv-loop μ-loop
-same-length c = ?
+same-length c = search needs
 
--- src/lib.rt:155:1
 returns : tie.Need-returns Inv-loop μ-loop
-returns c = ?
+returns c = let l = c .before .loop in digit-end _ _ _ _ _ _ (c .before .before .words-per-glyph .ensures) (l .words) (l .i) (l .inv) (c .loop-test .left)
 
 pub put-digits-spec : {M : Type 1} → statement M
 put-digits-spec =

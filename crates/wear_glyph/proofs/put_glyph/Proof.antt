@@ -1,13 +1,8 @@
 use borrow.Author.Needs.{needs}
-use Prim.Native.Nat.{_+_, _-_, _*_, _≤_}
-use native.Mathlib.Omega.{arith}
+use Prim.Native.Nat.{_-_}
 use Rattle.wear.proofs.Words.{Glyphing, glyph-start, glyph-turn, glyph-end}
 use Rattle.wear_glyph.proofs.put_glyph.Statement.{statement}
 use Rattle.wear_glyph.proofs.put_glyph.Tie as tie
-use Rattle.wear_glyph.proofs.put_glyph.Reads as reads
-use Rattle.wear_glyph.proofs.put_glyph.Lts as lts
-use Rattle.wear_glyph.proofs.glyph_word.Reads as glyph-word-reads
-use Rattle.wear_glyph.proofs.words_per_glyph.Reads as words-per-glyph-reads
 
 abbrev Inv-loop : tie.InvT-loop
 Inv-loop words₀ at a glyph n k₀ words k = Glyphing a glyph at n words₀ words k
@@ -15,47 +10,36 @@ Inv-loop words₀ at a glyph n k₀ words k = Glyphing a glyph at n words₀ wor
 abbrev μ-loop : tie.MeasureT-loop
 μ-loop words₀ at a glyph n k₀ words k = n - k
 
--- src/lib.rt:146:9
 words-per-glyph-requires : tie.Need-words-per-glyph-requires Inv-loop μ-loop
 words-per-glyph-requires c κs = search needs
 
--- src/lib.rt:148:5
 loop-holds : tie.Need-loop-holds Inv-loop μ-loop
 loop-holds c = glyph-start _ _ _ _ _
 
--- src/lib.rt:149:25
 glyph-word-requires : tie.Need-glyph-word-requires Inv-loop μ-loop
 glyph-word-requires c κs = search needs
 
--- src/lib.rt:149:15
 add-words : tie.Need-add-words Inv-loop μ-loop
 add-words c = search needs
 
--- src/lib.rt:149:9
 mul-words : tie.Need-mul-words Inv-loop μ-loop
 mul-words c = search needs
 
--- src/lib.rt:149:9
 slice-write-words : tie.Need-slice-write-words Inv-loop μ-loop
 slice-write-words c = search needs
 
--- src/lib.rt:150:9
 add-k : tie.Need-add-k Inv-loop μ-loop
 add-k c = search needs
 
--- src/lib.rt:148:5
 loop-less : tie.Need-loop-less Inv-loop μ-loop
 loop-less c = search needs
 
--- src/lib.rt:148:5
 loop-again : tie.Need-loop-again Inv-loop μ-loop
 loop-again c = let l = c .before .before .loop in glyph-turn _ _ _ _ _ (l .words) (l .k) _ (l .inv) (c .before .loop-test .taken) (c .glyph-word .ensures)
 
--- src/lib.rt:140:1
 same-length : tie.Need-same-length Inv-loop μ-loop
 same-length c = search needs
 
--- src/lib.rt:140:1
 returns : tie.Need-returns Inv-loop μ-loop
 returns c = let l = c .before .loop in glyph-end _ _ _ _ _ (l .words) (l .k) (l .inv) (c .loop-test .left) (c .before .before .words-per-glyph .ensures)
 

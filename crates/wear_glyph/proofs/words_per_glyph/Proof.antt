@@ -2,14 +2,10 @@ use mathlib.Core.Path.{sym}
 use Rattle.wear.proofs.Words.{words-narrow, words-wide}
 use Rattle.wear_glyph.proofs.words_per_glyph.Statement.{statement}
 use Rattle.wear_glyph.proofs.words_per_glyph.Tie as tie
-use Rattle.wear_glyph.proofs.words_per_glyph.Reads as reads
-use Rattle.wear_glyph.proofs.words_per_glyph.Lts as lts
 
--- src/lib.rt:133:1
 returns : tie.Need-returns
 returns c = sym (words-narrow _ (c .if1 .taken))
 
--- src/lib.rt:133:1
 returns-2 : tie.Need-returns-2
 returns-2 c = sym (words-wide _ (c .if1 .left))
 
