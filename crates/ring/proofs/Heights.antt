@@ -1,0 +1,53 @@
+-- The heights that a ring tells: how many, which hour each is of, none above 100.
+use Prim.Native.Nat.{ℕ, zero, suc, _+_, _-_, _≤_, _<_}
+use native.Mathlib.Omega.{arith}
+use mathlib.Core.Path.{_≡_, refl, ap}
+use mathlib.Core.Bool.{Bool, true, false, not, _&&_, cond}
+use mathlib.Core.List.{List, [], _∷_}
+use lib.ListN.{length, getD}
+use lib.Dec.{leb, eqb}
+use borrow.Author.Tests.{leb-true}
+use Rattle.record.proofs.Choice.{and-right, both-ways}
+use Rattle.ring.specs.Samples.{stepsTo, Telling, sampleOf, blank, notTold}
+use Rattle.ring.specs.Kept.{slotOf, slotHour, hourIn, heightsOf}
+use Rattle.ring.specs.declared.Ring.{Ring}
+
+abbrev Low : Telling → Type 0
+Low t = t .height ≤ 100
+
+pub slot-low : (any newest number held age : ℕ) → slotHour any newest number held age .height ≤ 100
+unfolding slotHour
+slot-low any newest number held age =
+    both-ways Low (not (eqb any 0) && (eqb (stepsTo number newest) age && (leb 1 held && leb held 101))) (sampleOf (held - 1)) blank
+      (λ e. omega (arith, leb-true held 101
+        (and-right (leb 1 held) _ (and-right (eqb (stepsTo number newest) age) _ (and-right (not (eqb any 0)) _ e)))))
+      (λ e. omega arith)
+
+pub hour-low : (r : Ring) (age : ℕ) → hourIn r age .height ≤ 100
+unfolding hourIn
+hour-low r age =
+    let k = slotOf (r .newest) age in
+    both-ways Low (leb age 511) (slotHour (r .any) (r .newest) (getD (r .numbers) k 0) (getD (r .heights) k 0) age) (notTold 27)
+      (λ e. slot-low (r .any) (r .newest) (getD (r .numbers) k 0) (getD (r .heights) k 0) age)
+      (λ e. omega arith)
+
+pub heights-count : (r : Ring) (n : ℕ) → length (heightsOf r n) ≡ n
+unfolding heightsOf
+heights-count r zero = refl
+heights-count r (suc n) = ap suc (heights-count r n)
+
+pub heights-low : (r : Ring) (n c : ℕ) → getD (heightsOf r n) c 0 ≤ 100
+unfolding heightsOf
+heights-low r zero c = omega arith
+heights-low r (suc n) zero = hour-low r n
+heights-low r (suc n) (suc c) = heights-low r n c
+
+-- column c from the left is the hour of age n − 1 − c
+pub heights-at : (r : Ring) (n c : ℕ) → c < n → getD (heightsOf r n) c 0 ≡ hourIn r (n - 1 - c) .height
+unfolding heightsOf
+heights-at r zero c h = absurd (omega arith)
+heights-at r (suc n) zero h = let e : n ≡ suc n - 1 - 0 = omega arith in ap (λ (a : ℕ). hourIn r a .height) e
+heights-at r (suc n) (suc c) h =
+    let e : n - 1 - c ≡ suc n - 1 - suc c = omega arith in
+    let g : c < n = omega arith in
+    rw (← e) (heights-at r n c g)
