@@ -53,12 +53,12 @@ stores a b ns hs s v k at n h =
     let made : blanked 514 (p ++ hs) s k ≡ p ++ new = subst (λ (x : ℕ). blanked x (p ++ hs) s k ≡ p ++ new) e (blanked-after p hs s k) in
     let first : set (set (p ++ new) 0 1) 1 s ≡ 1 ∷ s ∷ (ns ++ new) = refl in
     let number : set (1 ∷ s ∷ (ns ++ new)) (2 + at) s ≡ (1 ∷ s ∷ set ns at s) ++ new =
-    set-after (1 ∷ s ∷ []) (ns ++ new) at s
-    ∙ ap (λ (l : List ℕ). 1 ∷ s ∷ l) (set-append-left ns new at s (rw n h)) in
+        set-after (1 ∷ s ∷ []) (ns ++ new) at s
+        ∙ ap (λ (l : List ℕ). 1 ∷ s ∷ l) (set-append-left ns new at s (rw n h)) in
     let q : List ℕ = 1 ∷ s ∷ set ns at s in
     let f : length q ≡ 514 = ap (λ (x : ℕ). suc (suc x)) (length-set ns at s ∙ n) in
     let height : set (q ++ new) (514 + at) v ≡ q ++ set new at v =
-    subst (λ (x : ℕ). set (q ++ new) (x + at) v ≡ q ++ set new at v) f (set-after q new at v) in
+        subst (λ (x : ℕ). set (q ++ new) (x + at) v ≡ q ++ set new at v) f (set-after q new at v) in
     ap (λ (l : List ℕ). set (set (set (set l 0 1) 1 s) (2 + at) s) (514 + at) v) made
     ∙ (ap (λ (l : List ℕ). set (set l (2 + at) s) (514 + at) v) first
     ∙ (ap (λ (l : List ℕ). set l (514 + at) v) number
@@ -74,7 +74,7 @@ pub cells-whole : (cells : List ℕ) → length cells ≡ 1026 → cells ≡ cel
 cells-whole cells n =
     two-cells cells (omega arith)
     ∙ ap (λ (l : List ℕ). getD cells 0 0 ∷ getD cells 1 0 ∷ l)
-    (sym (take-append-drop 512 (drop 2 cells)) ∙ ap (λ (l : List ℕ). take 512 (drop 2 cells) ++ l) (drop-drop 512 2 cells))
+      (sym (take-append-drop 512 (drop 2 cells)) ∙ ap (λ (l : List ℕ). take 512 (drop 2 cells) ++ l) (drop-drop 512 2 cells))
 
 length-numbers : (cells : List ℕ) → length cells ≡ 1026 → length (take 512 (drop 2 cells)) ≡ 512
 length-numbers cells n = simp (length-take, length-drop) (omega arith)

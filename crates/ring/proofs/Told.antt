@@ -59,9 +59,9 @@ pub answers : (r : Ring) (age : ℕ) (h : Hour) → age ≤ 511
     → h ≡ hourOf (slotHour (r .any) (r .newest) (getD (r .numbers) (slotOf (r .newest) age) 0) (getD (r .heights) (slotOf (r .newest) age) 0) age)
     → Answers h (hourIn r age)
 answers r age h l e =
-    let k = slotOf (r .newest) age in (
-      ap tellingOf e ∙ slot-whole (r .any) (r .newest) (getD (r .numbers) k 0) (getD (r .heights) k 0) age ∙ hour-slot r age l,
-      e ∙ ap hourOf (hour-slot r age l),
+    let k = slotOf (r .newest) age in
+    ( ap tellingOf e ∙ slot-whole (r .any) (r .newest) (getD (r .numbers) k 0) (getD (r .heights) k 0) age ∙ hour-slot r age l
+    , e ∙ ap hourOf (hour-slot r age l)
     )
 
 -- the same of a ring as a C caller holds it
@@ -76,5 +76,5 @@ pub answers-in : (cells : List ℕ) (age k : ℕ) (h : Hour) → age ≤ 511 →
     → Answers h (hourIn (ringIn cells) age)
 answers-in cells age k h l s b e =
     answers (ringIn cells) age h l
-    (subst (λ (i : ℕ). h ≡ hourOf (slotHour (getD cells 0 0) (getD cells 1 0) (getD (take 512 (drop 2 cells)) i 0) (getD (drop 514 cells) i 0) age)) s
-    (rw (number-in cells k b, height-in cells k) e))
+      (subst (λ (i : ℕ). h ≡ hourOf (slotHour (getD cells 0 0) (getD cells 1 0) (getD (take 512 (drop 2 cells)) i 0) (getD (drop 514 cells) i 0) age)) s
+        (rw (number-in cells k b, height-in cells k) e))

@@ -4,6 +4,7 @@ use mathlib.Core.Path.{_≡_, refl, sym, ap, subst, _∙_}
 use mathlib.Core.Bool.{Bool, true, false, not, _&&_, _||_, cond, true≢false}
 use mathlib.Core.List.{List, [], _∷_, _++_, map, append-assoc}
 use mathlib.Core.Logic.{_⊎_, inl, inr}
+use native.Mathlib.Nat.{mul-le-mul}
 use native.Mathlib.Omega.{arith}
 use lib.ListN.{length, take, drop, length-append}
 use lib.Seq.{sets, take-at, drop-append-add}
@@ -12,7 +13,7 @@ use borrow.Author.Tests.{leb-true, ltb-false, eqb-true, not-false, eq-eqb, ne-eq
 use Rattle.record.specs.Lists.{partsFrom, partsOf}
 use Rattle.record.specs.Checks.{firstOf, AllPass, Numbered}
 use Rattle.record.proofs.Checks.{first-part, second-part, none}
-use Rattle.record.proofs.Choice.{and-left, and-right, or-elim}
+use Rattle.record.proofs.Choice.{and-left, and-right, or-elim, both-ways}
 use Rattle.record.proofs.Stores.{sets-append, sets-over}
 use Rattle.pixel.specs.Depth.{isDepth}
 use Rattle.command.specs.Command.{commandOf, commandBytes, lineWords}
@@ -186,6 +187,9 @@ module _ (t : Strip) (list words : List ℕ) where
     unfolding answerOf strippingOf
     refused-answer = rw (← refused-numbers, ne-eqb n 0 h)
 
+    pub refused-strip : (strippingOf (Refused n) ≡ stripping t (length list) (length words)) × ((list ≡ listAfter t list words) × (words ≡ wordsAfter t list words))
+    refused-strip = (refused-numbers, (refused-list, refused-words))
+
   -- made: both buffers hold the result and what lies past it
   module _ (e : firstOf (stripRows t (length list) (length words)) ≡ 0) where
     pub made-numbers : (bytes count : ℕ) → bytes ≡ length (stripList t) → count ≡ length (stripWords t) → strippingOf (Made bytes count) ≡ stripping t (length list) (length words)
@@ -222,6 +226,16 @@ module _ (t : Strip) (list words : List ℕ) where
   unfolding answerOf strippingOf
   answered (Made bytes count) h e = rw (← e)
   answered (Refused n) h e = rw (← e, ne-eqb n 0 (not-zero n h e))
+
+-- ---- room that is asked for at most
+pub count-most : (hs : List ℕ) → commandCount hs ≤ 2 * length hs
+unfolding commandCount
+count-most [] = omega arith
+count-most (h ∷ hs) = omega (arith, count-most hs, both-ways (λ (n : ℕ). n ≤ 2) (eqb h 0) 1 2 (λ e. omega arith) (λ e. omega arith))
+
+pub words-most : (n depth w : ℕ) → n ≤ 5 → w ≡ 8 * lineWords depth 8 → n * w ≤ 320
+unfolding lineWords
+words-most n depth w h e = mul-le-mul {n₂ = 5} {m₂ = 64} h (omega (arith, e, both-ways (λ (k : ℕ). k ≤ 8) (eqb depth 8) 4 8 (λ q. omega arith) (λ q. omega arith)))
 
 -- ---- the strip of heights and digits, for an ask without a fault
 module _ (a : Ask) (heights digits site factory : List ℕ) where
@@ -277,6 +291,18 @@ module _ (a : Ask) (heights digits site factory : List ℕ) where
 
           pub strip-made : length digits * (8 * lineWords (a .depth) 8) ≤ wordRoom → firstOf (stripRows strip room wordRoom) ≡ 0
           strip-made k = rows-left ∙ (rw (p, q, fits, le-ltb wordRoom (length (stripWords strip)) (subst (λ (n : ℕ). n ≤ wordRoom) (sym (digit-words-count a site factory digits)) k)))
+
+          -- made, with all that was stored
+          pub whole-strip : (list words l1 l2 new : List ℕ) (at bytes count w : ℕ) → room ≡ length list → wordRoom ≡ length words
+              → bytes ≡ 32 * (commandCount heights + length digits) → w ≡ 8 * lineWords (a .depth) 8 → count ≡ length digits * w → count ≤ wordRoom
+              → l1 ≡ sets list 0 (listBytes (columns a 0 heights)) → at ≡ length (listBytes (columns a 0 heights)) → l2 ≡ sets l1 at (listBytes (writes a 0 digits)) → new ≡ sets words 0 (stripWords strip)
+              → (strippingOf (Made bytes count) ≡ stripping strip (length list) (length words)) × ((l2 ≡ listAfter strip list words) × (new ≡ wordsAfter strip list words))
+          whole-strip list words l1 l2 new at bytes count w r v b d k z f g i j =
+              let n : count ≡ length (stripWords strip) = k ∙ ap (λ (x : ℕ). length digits * x) d ∙ sym (digit-words-count a site factory digits) in
+              let m : firstOf (stripRows strip (length list) (length words)) ≡ 0 = (λ t. firstOf (stripRows strip (sym r t) (sym v t))) ∙ strip-made (subst (λ (x : ℕ). x ≤ wordRoom) (n ∙ digit-words-count a site factory digits) z) in
+              (made-numbers strip list words m bytes count (b ∙ sym strip-bytes) n,
+              (made-list strip list words m l2 (strip-stored list l1 l2 at f g i) (omega (arith, strip-bytes, h, r)),
+              made-words strip list words m new j (omega (arith, n, z, v))))
 
 -- a strip with an hour has a command
 pub some-bytes : (a : Ask) (heights digits site factory : List ℕ) → 1 ≤ length heights → 0 < length (stripList (stripWith a heights digits site factory))
