@@ -1,1 +1,3 @@
 pub mod Heights
+pub mod Told
+pub mod Stored

@@ -1,1 +1,4 @@
 pub mod Lists
+pub mod Commands
+pub mod Fonts
+pub mod Words
