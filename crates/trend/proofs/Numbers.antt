@@ -23,9 +23,10 @@ use Rattle.unit.proofs.Listed.{length-sheet}
 use Rattle.wear.specs.Font.{glyphOf, glyphBit}
 use Rattle.wear.specs.Strip.{columnHeight, glyphSize, glyphAt, writes, glyphColour, glyphWord, glyphWords, digitWords}
 use Rattle.wear.specs.declared.Ask.{Ask}
+use Rattle.wear.proofs.Words.{glyph-words-count}
 use Rattle.trend.proofs.Pixels.{pixel-new, glyph-new}
 use Rattle.trend.proofs.Drawn.{drawn, below-append}
-use Rattle.trend.proofs.Strips.{glyph-takes, length-glyph}
+use Rattle.trend.proofs.Strips.{glyph-takes}
 use Rattle.trend.proofs.Columns.{MissedBy, covered, not-covered, missed, shade}
 
 -- ---- the host words of a glyph
@@ -160,7 +161,7 @@ module _ (m B : ℕ) (s : Screen) (o : Surface m B (mainImage s)) (deep : s .dep
   -- the words that the first of the writes takes, and those that it leaves
   module _ (x y : ℕ) (glyph rest : List ℕ) where
     count : wordsTaken s (glyphAt x y) ≡ length (glyphWords a glyph)
-    count = glyph-takes s a x y ∙ ap (λ (n : ℕ). glyphSize * lineWords n glyphSize) same ∙ sym (length-glyph s a glyph)
+    count = glyph-takes s a x y ∙ ap (λ (n : ℕ). glyphSize * lineWords n glyphSize) same ∙ sym (glyph-words-count a glyph)
 
     taken-words : take (wordsTaken s (glyphAt x y)) (glyphWords a glyph ++ rest) ≡ glyphWords a glyph
     taken-words = ap (λ (n : ℕ). take n (glyphWords a glyph ++ rest)) count ∙ take-append-seam (glyphWords a glyph) rest

@@ -1,23 +1,24 @@
 -- The strip's commands: none is refused, how many there are, and the host words that they take.
-use Prim.Native.Nat.{ℕ, zero, suc, _+_, _-_, _*_, _/_, _%_, _≤_, _<_}
+use Prim.Native.Nat.{ℕ, zero, suc, _+_, _-_, _*_, _≤_, _<_}
 use mathlib.Core.Path.{_≡_, refl, sym, ap, ap₂, _∙_}
 use mathlib.Core.Bool.{Bool, true, false, not, _||_, cond}
 use mathlib.Core.List.{List, [], _∷_, _++_}
 use native.Mathlib.Omega.{arith}
 use native.Mathlib.Nat.{mul-le-mul-right, mul-comm}
 use lib.ListN.{length, getD, length-append}
-use lib.Dec.{leb, ltb, eqb, leb·zero}
+use lib.Dec.{leb, eqb, leb·zero}
 use borrow.Author.Tests.{eqb-true, eqb-false, le-leb}
 use Rattle.record.specs.Bytes.{allZero}
 use Rattle.record.proofs.Choice.{both-ways}
-use Rattle.record.proofs.Lists.{length-tabulate}
 use Rattle.screen.specs.Screen.{mainImage}
 use Rattle.screen.specs.declared.Screen.{Screen}
 use Rattle.command.specs.Command.{commandBytes, surfaceOf, mustBeZero, formed, insideImage, placed, lineWords, wordsTaken}
-use Rattle.wear.specs.Font.{lastDigits, digitsOf, glyphOf}
-use Rattle.wear.specs.Strip.{columnHeight, glyphSize, fillAt, glyphAt, column, columns, writes, glyphWord, glyphWords, digitWords, digitsIn}
+use Rattle.wear.specs.Font.{digitsOf, glyphOf}
+use Rattle.wear.specs.Strip.{columnHeight, glyphSize, fillAt, glyphAt, column, columns, writes, glyphWords, digitWords, digitsIn}
 use Rattle.wear.specs.Limits.{commandCount}
 use Rattle.wear.specs.declared.Ask.{Ask}
+use Rattle.wear.proofs.Fonts.{digits-count}
+use Rattle.wear.proofs.Words.{glyph-words-count}
 use Rattle.trend.proofs.Drawn.{Ok, EachOk, ok-by, ok-append, taken, taken-append}
 
 -- ---- a fill and a glyph that the main image holds
@@ -90,16 +91,12 @@ module _ (s : Screen) (a : Ask) where
   unfolding wordsTaken
   glyph-takes x y = mul-comm (lineWords (s .depth) glyphSize) glyphSize
 
-  pub length-glyph : (glyph : List ℕ) → length (glyphWords a glyph) ≡ glyphSize * lineWords (a .depth) glyphSize
-  unfolding glyphWords
-  length-glyph glyph = length-tabulate (glyphSize * lineWords (a .depth) glyphSize) (glyphWord a glyph)
-
   -- the digits' words are as many as their writes take
   pub writes-take : s .depth ≡ a .depth → (site factory : List ℕ) (i : ℕ) (ds : List ℕ) → taken s (writes a i ds) ≡ length (digitWords a site factory ds)
   unfolding writes taken digitWords
   writes-take e site factory i [] = refl
   writes-take e site factory i (d ∷ ds) =
-      ap₂ (λ (x y : ℕ). x + y) (glyph-takes (a .x + i * glyphSize) (a .y + columnHeight) ∙ ap (λ (n : ℕ). glyphSize * lineWords n glyphSize) e ∙ sym (length-glyph (glyphOf site factory d)))
+      ap₂ (λ (x y : ℕ). x + y) (glyph-takes (a .x + i * glyphSize) (a .y + columnHeight) ∙ ap (λ (n : ℕ). glyphSize * lineWords n glyphSize) e ∙ sym (glyph-words-count a (glyphOf site factory d)))
       (writes-take e site factory (suc i) ds)
       ∙ sym (length-append (glyphWords a (glyphOf site factory d)) (digitWords a site factory ds))
 
@@ -114,12 +111,5 @@ count-low (h ∷ hs) = chosen (eqb h 0) (count-low hs)
     chosen false k = omega arith
 
 -- at most five digits
-last-few : (k n : ℕ) → length (lastDigits k n) ≤ k
-unfolding lastDigits
-last-few zero n = omega arith
-last-few (suc k) n =
-    both-ways (λ (l : List ℕ). length l ≤ suc k) (ltb n 10) (n ∷ []) (lastDigits k (n / 10) ++ (n % 10 ∷ [])) (λ e. omega arith)
-    (λ e. omega (arith, length-append (lastDigits k (n / 10)) (n % 10 ∷ []), last-few k (n / 10)))
-
 pub digits-few : (any newest : ℕ) → length (digitsIn any newest) ≤ 5
-digits-few any newest = both-ways (λ (l : List ℕ). length l ≤ 5) (eqb any 0) [] (digitsOf newest) (λ e. omega arith) (λ e. last-few 5 newest)
+digits-few any newest = both-ways (λ (l : List ℕ). length l ≤ 5) (eqb any 0) [] (digitsOf newest) (λ e. omega arith) (λ e. digits-count 5 newest)
