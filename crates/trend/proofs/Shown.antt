@@ -15,9 +15,9 @@ use Rattle.screen.specs.declared.Screen.{Screen}
 use Rattle.view.specs.View.{pixelAt, among}
 use Rattle.unit.specs.Sheet.{sheetPixel}
 use Rattle.ring.specs.Kept.{hourIn, emptyRing, ringAfter}
-use Rattle.ring.specs.Claims.{RingTells}
 use Rattle.ring.specs.declared.Ring.{Ring}
 use Rattle.ring.proofs.Heights.{heights-count, heights-low, heights-at}
+use Rattle.ring.proofs.Tells.{ring-tells}
 use Rattle.wear.specs.Font.{glyphOf}
 use Rattle.wear.specs.Strip.{Strip, stripFor, stripCommands, stripWords, columns, writes, columnHeight, glyphSize, glyphColour}
 use Rattle.wear.specs.Claims.{stripAfter}
@@ -143,8 +143,7 @@ ring-shown screen r a site factory bytes colours fits =
     (λ age. hourIn r age .height) (heights-at r (a .hours))
 
 -- ---- of samples that came to an empty ring
-module _ (tells : RingTells) where
-  pub trend-shown : TrendShown
-  trend-shown screen came a site factory bytes sequences colours fits =
-      subst (Shown screen (stripAfter came a site factory)) (λ i age. tells came sequences .hours age i .height)
-      (ring-shown screen (ringAfter emptyRing came) a site factory bytes colours fits)
+pub trend-shown : TrendShown
+trend-shown screen came a site factory bytes sequences colours fits =
+    subst (Shown screen (stripAfter came a site factory)) (λ i age. ring-tells came sequences .hours age i .height)
+    (ring-shown screen (ringAfter emptyRing came) a site factory bytes colours fits)
