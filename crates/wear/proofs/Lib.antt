@@ -1,0 +1,5 @@
+pub mod Lists
+pub mod Commands
+pub mod Fonts
+pub mod Words
+pub mod Same

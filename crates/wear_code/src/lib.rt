@@ -15,7 +15,7 @@ fn fault_of(a: Ask, factory: u64) -> u32
     ensures { λ r. ⌜ r ≡ firstOf (askRows a factory) ⌝ }
 {
     let d = a.depth;
-    if !((d == 1) | (d == 2) | (d == 4) | (d == 8) | (d == 16)) {
+    if !((d == 1) | ((d == 2) | ((d == 4) | ((d == 8) | (d == 16))))) {
         return 2;
     }
     if d < 8 {
@@ -24,9 +24,13 @@ fn fault_of(a: Ask, factory: u64) -> u32
     if (d == 8) & ((255 < a.bar) | (255 < a.background)) {
         return 12;
     }
-    let hours = (1 <= a.hours) & (a.hours <= 24);
-    let column = (1 <= a.column) & (a.column <= 16);
-    if !(hours & column & (80 <= factory)) {
+    if !((1 <= a.hours) & (a.hours <= 24)) {
+        return 27;
+    }
+    if !((1 <= a.column) & (a.column <= 16)) {
+        return 27;
+    }
+    if factory < 80 {
         return 27;
     }
     0
@@ -50,13 +54,18 @@ fn make_strip<'a>(
     ensures { λ r. ⌜ now (list .exit) ≡ listAfter (stripWith a (now (heights .entry)) (now (digits .entry)) (now (site .entry)) (now (factory .entry))) (now (list .entry)) (now (words .entry)) ⌝ }
     ensures { λ r. ⌜ now (words .exit) ≡ wordsAfter (stripWith a (now (heights .entry)) (now (digits .entry)) (now (site .entry)) (now (factory .entry))) (now (list .entry)) (now (words .entry)) ⌝ }
 {
-    if !wear_list::columns_reach(a, heights) || !wear_list::writes_reach(a, digits) {
+    if !wear_list::columns_reach(a, heights) {
+        return StripAnswer::Refused(27);
+    }
+    if !wear_list::writes_reach(a, digits) {
         return StripAnswer::Refused(27);
     }
     let bytes = 32 * (wear_list::column_commands(heights) + digits.len());
-    let per_digit = if a.depth == 8 { 32 } else { 64 };
-    let count = per_digit * digits.len();
-    if (list.len() < bytes) | (words.len() < count) {
+    if list.len() < bytes {
+        return StripAnswer::Refused(17);
+    }
+    let count = digits.len() * wear_glyph::words_per_glyph(a);
+    if words.len() < count {
         return StripAnswer::Refused(17);
     }
     let at = wear_list::put_columns(list, a, heights);

@@ -107,7 +107,7 @@ fn glyph_colour(a: Ask, glyph: &[u8], i: u32, j: usize) -> u16
     ensures { λ r. ⌜ r ≡ glyphColour a (now (glyph .entry)) i j ⌝ }
 {
     let row = record_code::wide(glyph[j]);
-    if row >> (7 - i) & 1 == 1 {
+    if (row >> (7 - i)) % 2 == 1 {
         a.bar
     } else {
         a.background
@@ -129,6 +129,13 @@ fn glyph_word(a: Ask, glyph: &[u8], k: usize) -> u16
     glyph_colour(a, glyph, (k % 8) as u32, k / 8)
 }
 
+// How many host words a glyph has.
+pub fn words_per_glyph(a: Ask) -> usize
+    ensures { λ r. ⌜ r ≡ 8 * lineWords (a .depth) 8 ⌝ }
+{
+    if a.depth == 8 { 32 } else { 64 }
+}
+
 // Stores a glyph's host words at `at`.
 fn put_glyph(words: &mut [u16], at: usize, a: Ask, glyph: &[u8])
     requires { ⌜ Checked a ⌝ }
@@ -136,7 +143,7 @@ fn put_glyph(words: &mut [u16], at: usize, a: Ask, glyph: &[u8])
     requires { ⌜ at + 8 * lineWords (a .depth) 8 ≤ length (now words) ⌝ }
     ensures { λ _. ⌜ now (words .exit) ≡ sets (now (words .entry)) at (glyphWords a (now (glyph .entry))) ⌝ }
 {
-    let n = if a.depth == 8 { 32 } else { 64 };
+    let n = words_per_glyph(a);
     let mut k = 0;
     while k < n {
         words[at + k] = glyph_word(a, glyph, k);
@@ -152,7 +159,7 @@ pub fn put_digits<'a>(words: &mut [u16], a: Ask, site: &'a [u8], factory: &'a [u
     requires { ⌜ length (digitWords a (now site) (now factory) (now digits)) ≤ length (now words) ⌝ }
     ensures { λ _. ⌜ now (words .exit) ≡ sets (now (words .entry)) 0 (digitWords a (now (site .entry)) (now (factory .entry)) (now (digits .entry))) ⌝ }
 {
-    let n = if a.depth == 8 { 32 } else { 64 };
+    let n = words_per_glyph(a);
     let mut i = 0;
     while i < digits.len() {
         let g = glyph(site, factory, record_code::wide(digits[i]));

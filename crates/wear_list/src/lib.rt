@@ -1,14 +1,28 @@
 // The commands of the strip, and the list that holds them.
 ghost use mathlib.Core.Path.{_≡_};
-ghost use mathlib.Core.Bool.{true};
+ghost use mathlib.Core.Bool.{true, cond};
+ghost use mathlib.Core.List.{_++_};
 ghost use Prim.Native.Nat.{_+_, _≤_, _<_};
 ghost use lib.ListN.{length};
 ghost use lib.Seq.{sets};
+ghost use lib.Dec.{eqb};
+ghost use Rattle.record.specs.Bytes.{fourBytes};
 ghost use Rattle.command.specs.Command.{commandBytes};
-ghost use Rattle.wear.specs.Strip.{fillAt, column, columns, writes, listBytes, allInReach};
+ghost use Rattle.wear.specs.Strip.{fillAt, glyphAt, column, columns, writes, listBytes, allInReach};
 ghost use Rattle.wear.specs.Limits.{Checked, Drawable, commandCount};
 use command::Command;
 use wear::Ask;
+
+// Stores four numbers, of four bytes each.
+fn put_four(list: &mut [u8], at: usize, a: u64, b: u64, c: u64, d: u64)
+    requires { ⌜ at + 16 ≤ length (now list) ⌝ }
+    ensures { λ _. ⌜ now (list .exit) ≡ sets (now (list .entry)) at (fourBytes a ++ (fourBytes b ++ (fourBytes c ++ fourBytes d))) ⌝ }
+{
+    record_code::put_number(list, at, a);
+    record_code::put_number(list, at + 4, b);
+    record_code::put_number(list, at + 8, c);
+    record_code::put_number(list, at + 12, d);
+}
 
 // Stores the 32 bytes of a command.
 fn put_command(list: &mut [u8], at: usize, c: Command)
@@ -16,14 +30,21 @@ fn put_command(list: &mut [u8], at: usize, c: Command)
     ensures { λ _. ⌜ now (list .exit) ≡ sets (now (list .entry)) at (commandBytes c) ⌝ }
 {
     let head = c.operation as u64 + 256 * c.surface as u64 + 65536 * c.raster as u64;
-    record_code::put_number(list, at, head);
-    record_code::put_number(list, at + 4, c.x as u64 + 65536 * c.y as u64);
-    record_code::put_number(list, at + 8, c.width as u64 + 65536 * c.height as u64);
-    record_code::put_number(list, at + 12, c.sx as u64 + 65536 * c.sy as u64);
-    record_code::put_number(list, at + 16, c.colour as u64);
-    record_code::put_number(list, at + 20, 0);
-    record_code::put_number(list, at + 24, 0);
-    record_code::put_number(list, at + 28, 0);
+    let corner = c.x as u64 + 65536 * c.y as u64;
+    let size = c.width as u64 + 65536 * c.height as u64;
+    let source = c.sx as u64 + 65536 * c.sy as u64;
+    put_four(list, at, head, corner, size, source);
+    put_four(list, at + 16, c.colour as u64, 0, 0, 0);
+}
+
+// Whether no x or y of a column's commands is past 65,535.
+fn column_reach(a: Ask, c: u32, height: u32) -> bool
+    requires { ⌜ Checked a ⌝ }
+    requires { ⌜ (c < 24) × (height ≤ 100) ⌝ }
+    ensures { λ r. ⌜ r ≡ allInReach (column a c height) ⌝ }
+{
+    let x = a.x as u32 + c * a.column;
+    (x <= 65535) & ((height == 0) | (a.y as u32 + 100 - height <= 65535))
 }
 
 // Whether no x or y of the columns' commands is past 65,535.
@@ -34,14 +55,7 @@ pub fn columns_reach(a: Ask, heights: &[u32]) -> bool
 {
     let mut c = 0;
     while c < heights.len() {
-        let x = a.x as u32 + c as u32 * a.column;
-        let height = heights[c];
-        let y = if height == 0 {
-            a.y as u32
-        } else {
-            a.y as u32 + 100 - height
-        };
-        if !((x <= 65535) & (y <= 65535)) {
+        if !column_reach(a, c as u32, heights[c]) {
             return false;
         }
         c += 1;
@@ -58,8 +72,18 @@ pub fn writes_reach(a: Ask, digits: &[u8]) -> bool
     if n == 0 {
         return true;
     }
-    let last = a.x as u32 + 8 * (n as u32 - 1);
+    let last = a.x as u32 + (n as u32 - 1) * 8;
     (last <= 65535) & (a.y as u32 + 100 <= 65535)
+}
+
+// How many commands a column has.
+fn column_count(height: u32) -> usize
+    ensures { λ r. ⌜ r ≡ cond (eqb height 0) 1 2 ⌝ }
+{
+    if height == 0 {
+        return 1;
+    }
+    2
 }
 
 // How many commands the columns have.
@@ -67,12 +91,10 @@ pub fn column_commands(heights: &[u32]) -> usize
     requires { ⌜ length (now heights) ≤ 24 ⌝ }
     ensures { λ r. ⌜ r ≡ commandCount (now (heights .entry)) ⌝ }
 {
-    let mut n = heights.len();
+    let mut n = 0;
     let mut c = 0;
     while c < heights.len() {
-        if heights[c] != 0 {
-            n += 1;
-        }
+        n += column_count(heights[c]);
         c += 1;
     }
     n
@@ -140,6 +162,25 @@ pub fn put_columns(list: &mut [u8], a: Ask, heights: &[u32]) -> usize
     at
 }
 
+// A write of a glyph on the main image.
+fn glyph_at(x: u32, y: u32) -> Command
+    requires { ⌜ (x ≤ 65535) × (y ≤ 65535) ⌝ }
+    ensures { λ r. ⌜ r ≡ glyphAt x y ⌝ }
+{
+    Command {
+        operation: 2,
+        surface: 0,
+        raster: 12,
+        x: x as u16,
+        y: y as u16,
+        width: 8,
+        height: 8,
+        sx: 0,
+        sy: 0,
+        colour: 0,
+    }
+}
+
 // Stores the number's commands at `at`.
 pub fn put_writes(list: &mut [u8], at: usize, a: Ask, digits: &[u8])
     requires { ⌜ length (now digits) ≤ 5 ⌝ }
@@ -149,18 +190,7 @@ pub fn put_writes(list: &mut [u8], at: usize, a: Ask, digits: &[u8])
 {
     let mut i = 0;
     while i < digits.len() {
-        let c = Command {
-            operation: 2,
-            surface: 0,
-            raster: 12,
-            x: (a.x as u32 + 8 * i as u32) as u16,
-            y: (a.y as u32 + 100) as u16,
-            width: 8,
-            height: 8,
-            sx: 0,
-            sy: 0,
-            colour: 0,
-        };
+        let c = glyph_at(a.x as u32 + i as u32 * 8, a.y as u32 + 100);
         put_command(list, at + 32 * i, c);
         i += 1;
     }

@@ -1,0 +1,315 @@
+-- The list of the strip's commands: how many there are, their bytes, and the commands back out of the bytes.
+use Prim.Native.Nat.{ℕ, zero, suc, _+_, _*_, _/_, _<_, _≤_}
+use mathlib.Core.Path.{_≡_, refl, sym, ap, subst, _∙_}
+use mathlib.Core.Bool.{Bool, true, false, not, _&&_, _||_, cond, true≢false}
+use mathlib.Core.List.{List, [], _∷_, _++_, map, append-assoc}
+use mathlib.Core.Logic.{_⊎_, inl, inr}
+use native.Mathlib.Nat.{mul-le-mul}
+use native.Mathlib.Omega.{arith}
+use lib.ListN.{length, take, drop, length-append}
+use lib.Seq.{sets, take-at, drop-append-add}
+use lib.Dec.{leb, ltb, eqb}
+use borrow.Author.Tests.{leb-true, ltb-false, eqb-true, not-false, eq-eqb, ne-eqb, lt-ltb, le-ltb}
+use Rattle.record.specs.Lists.{partsFrom, partsOf}
+use Rattle.record.specs.Checks.{firstOf, AllPass, Numbered}
+use Rattle.record.proofs.Checks.{first-part, second-part, none}
+use Rattle.record.proofs.Choice.{and-left, and-right, or-elim, both-ways}
+use Rattle.record.proofs.Stores.{sets-append, sets-over}
+use Rattle.pixel.specs.Depth.{isDepth}
+use Rattle.command.specs.Command.{commandOf, commandBytes, lineWords}
+use Rattle.command.specs.declared.Command.{Command}
+use Rattle.command.proofs.Bytes.{Storable, command-back}
+use Rattle.wear.specs.Strip.{Strip, stripWith, column, columns, writes, stripCommands, listBytes, stripList, stripWords, allInReach, askRows, stripRows, Stripping, stripping, listAfter, wordsAfter, strippingOf, answerOf}
+use Rattle.wear.specs.Limits.{Checked, commandCount}
+use Rattle.wear.specs.declared.Ask.{Ask}
+use Rattle.wear.specs.declared.StripAnswer.{StripAnswer}
+use Rattle.wear.specs.declared.StripAnswer.the-variants.{Made, Refused}
+use Rattle.wear.proofs.Words.{digit-words-count}
+
+-- ---- the bytes
+pub length-command : (c : Command) → length (commandBytes c) ≡ 32
+unfolding commandBytes
+length-command c = refl
+
+pub length-list : (cs : List Command) → length (listBytes cs) ≡ 32 * length cs
+unfolding listBytes
+length-list [] = refl
+length-list (c ∷ cs) = simp (length-append, length-command, length-list cs) (omega arith)
+
+pub list-append : (xs ys : List Command) → listBytes (xs ++ ys) ≡ listBytes xs ++ listBytes ys
+unfolding listBytes
+list-append [] ys = refl
+list-append (c ∷ xs) ys = ap (λ (l : List ℕ). commandBytes c ++ l) (list-append xs ys) ∙ sym (append-assoc (commandBytes c) (listBytes xs) (listBytes ys))
+
+-- the record of a command gives the command
+pub command-again : (c : Command) → Storable c → commandOf (commandBytes c) ≡ c
+command-again c h = command-back c h
+
+-- ---- the parts of the list are the records
+-- 32 bytes in front: the parts from 1 on are those of what is behind them
+past : (c : Command) (l : List ℕ) (i : ℕ) → drop (suc i * 32) (commandBytes c ++ l) ≡ drop (i * 32) l
+past c l i =
+    let e : suc i * 32 ≡ length (commandBytes c) + i * 32 = omega (arith, length-command c) in
+    ap (λ (n : ℕ). drop n (commandBytes c ++ l)) e ∙ drop-append-add (commandBytes c) l (i * 32)
+
+parts-past : (c : Command) (l : List ℕ) (i n : ℕ) → partsFrom 32 (commandBytes c ++ l) (suc i) n ≡ partsFrom 32 l i n
+unfolding partsFrom
+parts-past c l i zero = refl
+parts-past c l i (suc n) = λ t. take 32 (past c l i t) ∷ parts-past c l (suc i) n t
+
+parts-from : (cs : List Command) → partsFrom 32 (listBytes cs) 0 (length cs) ≡ map commandBytes cs
+unfolding partsFrom listBytes
+parts-from [] = refl
+parts-from (c ∷ cs) = λ t. take-at (commandBytes c) (listBytes cs) 32 (length-command c) t ∷ (parts-past c (listBytes cs) 0 (length cs) ∙ parts-from cs) t
+
+pub list-parts : (cs : List Command) → partsOf 32 (listBytes cs) ≡ map commandBytes cs
+unfolding partsOf
+list-parts cs =
+    let e : length (listBytes cs) / 32 ≡ length cs = omega (arith, length-list cs) in
+    ap (λ (n : ℕ). partsFrom 32 (listBytes cs) 0 n) e ∙ parts-from cs
+
+-- ---- how many commands there are
+column-count : (a : Ask) (c h : ℕ) (t : Bool) → eqb h 0 ≡ t → length (column a c h) ≡ cond t 1 2
+unfolding column
+column-count a c h true e = rw e
+column-count a c h false e = rw e
+
+pub columns-count : (a : Ask) (c : ℕ) (hs : List ℕ) → length (columns a c hs) ≡ commandCount hs
+unfolding columns commandCount
+columns-count a c [] = refl
+columns-count a c (h ∷ hs) = length-append (column a c h) (columns a (suc c) hs) ∙ (λ t. column-count a c h (eqb h 0) refl t + columns-count a (suc c) hs t)
+
+pub writes-count : (a : Ask) (i : ℕ) (ds : List ℕ) → length (writes a i ds) ≡ length ds
+unfolding writes
+writes-count a i [] = refl
+writes-count a i (d ∷ ds) = ap suc (writes-count a (suc i) ds)
+
+-- ---- what is in reach
+and-assoc : (a b c d : Bool) → a && (b && (c && d)) ≡ (a && (b && c)) && d
+and-assoc true true c d = refl
+and-assoc true false c d = refl
+and-assoc false b c d = refl
+
+pub reach-append : (xs ys : List Command) → allInReach (xs ++ ys) ≡ (allInReach xs && allInReach ys)
+unfolding allInReach
+reach-append [] ys = refl
+reach-append (c ∷ xs) ys =
+    ap (λ (b : Bool). leb (c .x) 65535 && (leb (c .y) 65535 && b)) (reach-append xs ys)
+    ∙ and-assoc (leb (c .x) 65535) (leb (c .y) 65535) (allInReach xs) (allInReach ys)
+
+-- ---- the checks that ask for no command
+asked-numbered : (a : Ask) (n : ℕ) → Numbered (askRows a n)
+unfolding Numbered askRows
+asked-numbered a n = (omega arith, (omega arith, (omega arith, (omega arith, (omega arith, (omega arith, tt))))))
+
+-- what they leave known
+eight-or-sixteen : (d : ℕ) → isDepth d ≡ true → 8 ≤ d → (d ≡ 8) ⊎ (d ≡ 16)
+unfolding isDepth
+eight-or-sixteen d e h =
+    or-elim (eqb d 1) _ e (λ p. absurd (omega (arith, eqb-true d 1 p))) (λ e2.
+    or-elim (eqb d 2) _ e2 (λ p. absurd (omega (arith, eqb-true d 2 p))) (λ e4.
+    or-elim (eqb d 4) _ e4 (λ p. absurd (omega (arith, eqb-true d 4 p))) (λ e8.
+    or-elim (eqb d 8) _ e8 (λ p. inl (eqb-true d 8 p)) (λ p. inr (eqb-true d 16 p)))))
+
+-- colours at depth 8
+no-fault : (d b g : Bool) → (d && (b || g)) ≡ false → d ≡ true → (b ≡ false) × (g ≡ false)
+no-fault true true g e h = absurd (true≢false e)
+no-fault true false g e h = (refl, e)
+no-fault false b g e h = absurd (true≢false (sym h))
+
+module _ (a : Ask) (n : ℕ) (e : firstOf (askRows a n) ≡ 0) where
+  passes : AllPass (askRows a n)
+  passes = none (askRows a n) (asked-numbered a n) e
+
+  pub asked-depth : isDepth (a .depth) ≡ true
+  unfolding askRows AllPass
+  asked-depth = not-false (isDepth (a .depth)) (passes .0)
+
+  pub asked-hours : (1 ≤ a .hours) × (a .hours ≤ 24)
+  unfolding askRows AllPass
+  asked-hours =
+      let h = not-false (leb 1 (a .hours) && leb (a .hours) 24) (passes .1 .1 .1 .0) in
+      (leb-true 1 (a .hours) (and-left (leb 1 (a .hours)) (leb (a .hours) 24) h), leb-true (a .hours) 24 (and-right (leb 1 (a .hours)) (leb (a .hours) 24) h))
+
+  pub asked-column : (1 ≤ a .column) × (a .column ≤ 16)
+  unfolding askRows AllPass
+  asked-column =
+      let h = not-false (leb 1 (a .column) && leb (a .column) 16) (passes .1 .1 .1 .1 .0) in
+      (leb-true 1 (a .column) (and-left (leb 1 (a .column)) (leb (a .column) 16) h), leb-true (a .column) 16 (and-right (leb 1 (a .column)) (leb (a .column) 16) h))
+
+  pub asked-font : 80 ≤ n
+  unfolding askRows AllPass
+  asked-font = leb-true 80 n (not-false (leb 80 n) (passes .1 .1 .1 .1 .1 .0))
+
+  asked-colours : a .depth ≡ 8 → (a .bar ≤ 255) × (a .background ≤ 255)
+  unfolding askRows AllPass
+  asked-colours d =
+      let h = no-fault (eqb (a .depth) 8) (ltb 255 (a .bar)) (ltb 255 (a .background)) (passes .1 .1 .0) (eq-eqb (a .depth) 8 d) in
+      (ltb-false 255 (a .bar) (h .0), ltb-false 255 (a .background) (h .1))
+
+  pub asked : Checked a
+  unfolding askRows AllPass
+  asked =
+      record {
+        depth = eight-or-sixteen (a .depth) asked-depth (ltb-false (a .depth) 8 (passes .1 .0));
+        bar = λ d. asked-colours d .0;
+        background = λ d. asked-colours d .1;
+        hours = asked-hours .1;
+        column = asked-column .1;
+      }
+
+-- ---- the strip's answer
+-- a number of the first checks is the answer
+pub faulty : (t : Strip) (room wordRoom n : ℕ) → n ≡ firstOf (askRows (t .ask) (length (t .factory))) → (n ≡ 0 → ⊥) → firstOf (stripRows t room wordRoom) ≡ n
+unfolding stripRows
+faulty t room wordRoom n e h = first-part (askRows (t .ask) (length (t .factory))) _ (omega (arith, e, h)) ∙ sym e
+
+module _ (t : Strip) (list words : List ℕ) where
+  -- refused by n, nothing is stored
+  module _ (n : ℕ) (e : firstOf (stripRows t (length list) (length words)) ≡ n) (h : n ≡ 0 → ⊥) where
+    pub refused-numbers : strippingOf (Refused n) ≡ stripping t (length list) (length words)
+    unfolding strippingOf stripping
+    refused-numbers = rw (e, ne-eqb n 0 h)
+
+    refused-number : stripping t (length list) (length words) .number ≡ n
+    unfolding strippingOf
+    refused-number = ap (λ (s : Stripping). s .number) (sym refused-numbers)
+
+    pub refused-list : list ≡ listAfter t list words
+    unfolding listAfter
+    refused-list = rw (refused-number, ne-eqb n 0 h)
+
+    pub refused-words : words ≡ wordsAfter t list words
+    unfolding wordsAfter
+    refused-words = rw (refused-number, ne-eqb n 0 h)
+
+    pub refused-answer : Refused n ≡ answerOf (stripping t (length list) (length words))
+    unfolding answerOf strippingOf
+    refused-answer = rw (← refused-numbers, ne-eqb n 0 h)
+
+    pub refused-strip : (strippingOf (Refused n) ≡ stripping t (length list) (length words)) × ((list ≡ listAfter t list words) × (words ≡ wordsAfter t list words))
+    refused-strip = (refused-numbers, (refused-list, refused-words))
+
+  -- made: both buffers hold the result and what lies past it
+  module _ (e : firstOf (stripRows t (length list) (length words)) ≡ 0) where
+    pub made-numbers : (bytes count : ℕ) → bytes ≡ length (stripList t) → count ≡ length (stripWords t) → strippingOf (Made bytes count) ≡ stripping t (length list) (length words)
+    unfolding strippingOf stripping
+    made-numbers bytes count p q = rw (e, p, q)
+
+    made-number : stripping t (length list) (length words) .number ≡ 0
+    unfolding stripping
+    made-number = rw e
+
+    pub made-list : (new : List ℕ) → new ≡ sets list 0 (stripList t) → length (stripList t) ≤ length list → new ≡ listAfter t list words
+    unfolding listAfter
+    made-list new s h = rw made-number (s ∙ sets-over list (stripList t) h)
+
+    pub made-words : (new : List ℕ) → new ≡ sets words 0 (stripWords t) → length (stripWords t) ≤ length words → new ≡ wordsAfter t list words
+    unfolding wordsAfter
+    made-words new s h = rw made-number (s ∙ sets-over words (stripWords t) h)
+
+  -- number 0 is of no failing row
+  number-none : (k : ℕ) → firstOf (stripRows t (length list) (length words)) ≡ k → stripping t (length list) (length words) .number ≡ 0 → k ≡ 0
+  unfolding stripping
+  number-none zero q u = refl
+  number-none (suc k) q u = absurd (omega (arith, (rw (q, ne-eqb (suc k) 0 (λ z. omega arith)) at u)))
+
+  -- with a command, the numbers say which answer it was
+  not-zero : (n : ℕ) → 0 < length (stripList t) → strippingOf (Refused n) ≡ stripping t (length list) (length words) → n ≡ 0 → ⊥
+  unfolding strippingOf
+  not-zero n h e z =
+      let f : firstOf (stripRows t (length list) (length words)) ≡ 0 = number-none (firstOf (stripRows t (length list) (length words))) refl (sym (ap (λ (s : Stripping). s .number) e) ∙ z) in
+      let b : 0 ≡ length (stripList t) = ap (λ (s : Stripping). s .bytes) (e ∙ sym (made-numbers f (length (stripList t)) (length (stripWords t)) refl refl)) in
+      omega (arith, h, b)
+
+  pub answered : (r : StripAnswer) → 0 < length (stripList t) → strippingOf r ≡ stripping t (length list) (length words) → r ≡ answerOf (stripping t (length list) (length words))
+  unfolding answerOf strippingOf
+  answered (Made bytes count) h e = rw (← e)
+  answered (Refused n) h e = rw (← e, ne-eqb n 0 (not-zero n h e))
+
+-- ---- room that is asked for at most
+pub count-most : (hs : List ℕ) → commandCount hs ≤ 2 * length hs
+unfolding commandCount
+count-most [] = omega arith
+count-most (h ∷ hs) = omega (arith, count-most hs, both-ways (λ (n : ℕ). n ≤ 2) (eqb h 0) 1 2 (λ e. omega arith) (λ e. omega arith))
+
+pub words-most : (n depth w : ℕ) → n ≤ 5 → w ≡ 8 * lineWords depth 8 → n * w ≤ 320
+unfolding lineWords
+words-most n depth w h e = mul-le-mul {n₂ = 5} {m₂ = 64} h (omega (arith, e, both-ways (λ (k : ℕ). k ≤ 8) (eqb depth 8) 4 8 (λ q. omega arith) (λ q. omega arith)))
+
+-- ---- the strip of heights and digits, for an ask without a fault
+module _ (a : Ask) (heights digits site factory : List ℕ) where
+  abbrev strip : Strip
+  strip = stripWith a heights digits site factory
+
+  pub strip-bytes : length (stripList strip) ≡ 32 * (commandCount heights + length digits)
+  unfolding stripCommands
+  strip-bytes =
+      length-list (columns a 0 heights ++ writes a 0 digits)
+      ∙ ap (λ (n : ℕ). 32 * n) (length-append (columns a 0 heights) (writes a 0 digits) ∙ (λ t. columns-count a 0 heights t + writes-count a 0 digits t))
+
+  -- the columns' bytes, and the number's behind them
+  pub strip-parts : stripList strip ≡ listBytes (columns a 0 heights) ++ listBytes (writes a 0 digits)
+  unfolding stripCommands
+  strip-parts = list-append (columns a 0 heights) (writes a 0 digits)
+
+  pub strip-length : length (stripList strip) ≡ length (listBytes (columns a 0 heights)) + length (listBytes (writes a 0 digits))
+  strip-length = ap (λ (l : List ℕ). length l) strip-parts ∙ length-append (listBytes (columns a 0 heights)) (listBytes (writes a 0 digits))
+
+  pub strip-stored : (list l1 l2 : List ℕ) (at : ℕ) → l1 ≡ sets list 0 (listBytes (columns a 0 heights)) → at ≡ length (listBytes (columns a 0 heights))
+      → l2 ≡ sets l1 at (listBytes (writes a 0 digits)) → l2 ≡ sets list 0 (stripList strip)
+  strip-stored list l1 l2 at e f g =
+      let z : at ≡ 0 + length (listBytes (columns a 0 heights)) = omega (arith, f) in
+      g ∙ (λ t. sets (e t) (z t) (listBytes (writes a 0 digits)))
+      ∙ sym (ap (λ (b : List ℕ). sets list 0 b) strip-parts ∙ sets-append list 0 (listBytes (columns a 0 heights)) (listBytes (writes a 0 digits)))
+
+  -- its checks come down to reach and room
+  module _ (room wordRoom : ℕ) (e : firstOf (askRows a (length factory)) ≡ 0) where
+    rows-left : firstOf (stripRows strip room wordRoom) ≡ cond (not (allInReach (columns a 0 heights) && allInReach (writes a 0 digits))) 27 (cond (ltb room (length (stripList strip)) || ltb wordRoom (length (stripWords strip))) 17 0)
+    unfolding stripRows stripCommands firstOf
+    rows-left =
+        second-part (askRows a (length factory)) _ (none (askRows a (length factory)) (asked-numbered a (length factory)) e)
+        ∙ ap (λ (b : Bool). cond (not b) 27 (cond (ltb room (length (stripList strip)) || ltb wordRoom (length (stripWords strip))) 17 0)) (reach-append (columns a 0 heights) (writes a 0 digits))
+
+    pub columns-far : allInReach (columns a 0 heights) ≡ false → firstOf (stripRows strip room wordRoom) ≡ 27
+    columns-far p = rows-left ∙ (rw p)
+
+    module _ (p : allInReach (columns a 0 heights) ≡ true) where
+      pub writes-far : allInReach (writes a 0 digits) ≡ false → firstOf (stripRows strip room wordRoom) ≡ 27
+      writes-far q = rows-left ∙ (rw (p, q))
+
+      module _ (q : allInReach (writes a 0 digits) ≡ true) where
+        pub list-short : room < 32 * (commandCount heights + length digits) → firstOf (stripRows strip room wordRoom) ≡ 17
+        list-short h = rows-left ∙ (rw (p, q, lt-ltb room (length (stripList strip)) (omega (arith, h, strip-bytes))))
+
+        module _ (h : 32 * (commandCount heights + length digits) ≤ room) where
+          fits : ltb room (length (stripList strip)) ≡ false
+          fits = le-ltb room (length (stripList strip)) (omega (arith, h, strip-bytes))
+
+          pub words-short : wordRoom < length digits * (8 * lineWords (a .depth) 8) → firstOf (stripRows strip room wordRoom) ≡ 17
+          words-short k = rows-left ∙ (rw (p, q, fits, lt-ltb wordRoom (length (stripWords strip)) (subst (λ (n : ℕ). wordRoom < n) (sym (digit-words-count a site factory digits)) k)))
+
+          pub strip-made : length digits * (8 * lineWords (a .depth) 8) ≤ wordRoom → firstOf (stripRows strip room wordRoom) ≡ 0
+          strip-made k = rows-left ∙ (rw (p, q, fits, le-ltb wordRoom (length (stripWords strip)) (subst (λ (n : ℕ). n ≤ wordRoom) (sym (digit-words-count a site factory digits)) k)))
+
+          -- made, with all that was stored
+          pub whole-strip : (list words l1 l2 new : List ℕ) (at bytes count w : ℕ) → room ≡ length list → wordRoom ≡ length words
+              → bytes ≡ 32 * (commandCount heights + length digits) → w ≡ 8 * lineWords (a .depth) 8 → count ≡ length digits * w → count ≤ wordRoom
+              → l1 ≡ sets list 0 (listBytes (columns a 0 heights)) → at ≡ length (listBytes (columns a 0 heights)) → l2 ≡ sets l1 at (listBytes (writes a 0 digits)) → new ≡ sets words 0 (stripWords strip)
+              → (strippingOf (Made bytes count) ≡ stripping strip (length list) (length words)) × ((l2 ≡ listAfter strip list words) × (new ≡ wordsAfter strip list words))
+          whole-strip list words l1 l2 new at bytes count w r v b d k z f g i j =
+              let n : count ≡ length (stripWords strip) = k ∙ ap (λ (x : ℕ). length digits * x) d ∙ sym (digit-words-count a site factory digits) in
+              let m : firstOf (stripRows strip (length list) (length words)) ≡ 0 = (λ t. firstOf (stripRows strip (sym r t) (sym v t))) ∙ strip-made (subst (λ (x : ℕ). x ≤ wordRoom) (n ∙ digit-words-count a site factory digits) z) in
+              (made-numbers strip list words m bytes count (b ∙ sym strip-bytes) n,
+              (made-list strip list words m l2 (strip-stored list l1 l2 at f g i) (omega (arith, strip-bytes, h, r)),
+              made-words strip list words m new j (omega (arith, n, z, v))))
+
+-- a strip with an hour has a command
+pub some-bytes : (a : Ask) (heights digits site factory : List ℕ) → 1 ≤ length heights → 0 < length (stripList (stripWith a heights digits site factory))
+unfolding commandCount
+some-bytes a [] digits site factory h = absurd (omega arith)
+some-bytes a (x ∷ heights) digits site factory h = omega (arith, strip-bytes a (x ∷ heights) digits site factory, one (eqb x 0))
+  where
+    one : (t : Bool) → 1 ≤ cond t 1 2
+    one true = omega arith
+    one false = omega arith
