@@ -1,6 +1,7 @@
 -- The samples of a text, line by line.
-use Prim.Native.Nat.{ℕ, _+_, _≤_}
-use mathlib.Core.Path.{_≡_, refl, sym, ap, _∙_}
+use Prim.Native.Nat.{ℕ, _+_, _-_, _≤_}
+use native.Mathlib.Nat.{add-sub-cancel-left}
+use mathlib.Core.Path.{_≡_, refl, sym, ap, subst, _∙_}
 use mathlib.Core.Bool.{Bool, true, false}
 use mathlib.Core.List.{List, [], _∷_}
 use lib.ListN.{length, take, drop, drop-of-length-le}
@@ -14,7 +15,7 @@ use Rattle.sample.specs.declared.Stop.{Stop}
 use Rattle.sample.specs.declared.Stop.the-variants.{LineEnd}
 use Rattle.sample.specs.declared.SampleLine.{SampleLine}
 use Rattle.sample.specs.declared.SampleLine.the-variants.{Sample as Given, Nothing, Bad}
-use Rattle.sample.proofs.Runs.{Ended}
+use Rattle.sample.proofs.Runs.{Ended, all-behind}
 
 -- the lines behind the line end that a text begins with
 abbrev linesBehind : List ℕ → List (List ℕ)
@@ -60,3 +61,38 @@ unfolding withLine ringAfter
 line-first r (Given n h) ss = refl
 line-first r Nothing ss = refl
 line-first r Bad ss = refl
+
+-- ---- a line that is taken, and one that is not
+module _ (r : Ring) (line : List ℕ) (m : SampleLine) (means : m ≡ lineMeans line) where
+  after-line : (k : SampleLine) → m ≡ k → ringAfter r (withLine k []) ≡ ringAfter r (withLine (lineMeans line) [])
+  after-line k e = ap (λ (x : SampleLine). ringAfter r (withLine x [])) (sym e ∙ means)
+
+  pub sample-taken : (n h : ℕ) → m ≡ Given n h → taking r n h .ring ≡ ringAfter r (withLine (lineMeans line) [])
+  unfolding withLine ringAfter
+  sample-taken n h e = after-line (Given n h) e
+
+  pub nothing-taken : m ≡ Nothing → r ≡ ringAfter r (withLine (lineMeans line) [])
+  unfolding withLine ringAfter
+  nothing-taken e = after-line Nothing e
+
+  pub bad-left-out : m ≡ Bad → r ≡ ringAfter r (withLine (lineMeans line) [])
+  unfolding withLine ringAfter
+  bad-left-out e = after-line Bad e
+
+-- a line more: from the text at `at`, of which the first line has n letters
+pub line-more : (text : List ℕ) (at n : ℕ) (r next whole : Ring) → Ended LineEnd (take (length text - at) (drop at text)) n
+    → next ≡ ringAfter r (withLine (lineMeans (take (at + n - at) (drop at text))) [])
+    → ringAfter r (samplesOf (linesOf (drop at text))) ≡ whole → ringAfter next (samplesOf (linesOf (drop (at + (n + 1)) text))) ≡ whole
+line-more text at n r next whole e f h =
+    let s = drop at text in
+    let rest = samplesOf (linesOf (drop (n + 1) s)) in
+    ap (λ (x : Ring). ringAfter x (samplesOf (linesOf (drop (at + (n + 1)) text)))) (f ∙ ap (λ (k : ℕ). ringAfter r (withLine (lineMeans (take k s)) [])) (add-sub-cancel-left at n))
+    ∙ ap (λ (t : List ℕ). ringAfter (ringAfter r (withLine (lineMeans (take n s)) [])) (samplesOf (linesOf t))) (sym (drop-drop (n + 1) at text))
+    ∙ sym (line-first r (lineMeans (take n s)) rest)
+    ∙ ap (ringAfter r) (sym (next-line s n (subst (λ (t : List ℕ). Ended LineEnd t n) (all-behind text at) e)))
+    ∙ h
+
+-- no line more
+pub lines-taken : (text : List ℕ) (at : ℕ) (r whole : Ring) → length text ≤ at → ringAfter r (samplesOf (linesOf (drop at text))) ≡ whole → r ≡ whole
+unfolding ringAfter
+lines-taken text at r whole l h = ap (ringAfter r) (sym (no-line text at l)) ∙ h

@@ -299,10 +299,13 @@ module _ (a : Ask) (heights digits site factory : List ℕ) where
               → (strippingOf (Made bytes count) ≡ stripping strip (length list) (length words)) × ((l2 ≡ listAfter strip list words) × (new ≡ wordsAfter strip list words))
           whole-strip list words l1 l2 new at bytes count w r v b d k z f g i j =
               let n : count ≡ length (stripWords strip) = k ∙ ap (λ (x : ℕ). length digits * x) d ∙ sym (digit-words-count a site factory digits) in
-              let m : firstOf (stripRows strip (length list) (length words)) ≡ 0 = (λ t. firstOf (stripRows strip (sym r t) (sym v t))) ∙ strip-made (subst (λ (x : ℕ). x ≤ wordRoom) (n ∙ digit-words-count a site factory digits) z) in
-              (made-numbers strip list words m bytes count (b ∙ sym strip-bytes) n,
-              (made-list strip list words m l2 (strip-stored list l1 l2 at f g i) (omega (arith, strip-bytes, h, r)),
-              made-words strip list words m new j (omega (arith, n, z, v))))
+              let m : firstOf (stripRows strip (length list) (length words)) ≡ 0 = (λ t. firstOf (stripRows strip (sym r t) (sym v t))) ∙ strip-made (subst (λ (x : ℕ). x ≤ wordRoom) (n ∙ digit-words-count a site factory digits) z) in (
+                made-numbers strip list words m bytes count (b ∙ sym strip-bytes) n,
+                (
+                  made-list strip list words m l2 (strip-stored list l1 l2 at f g i) (omega (arith, strip-bytes, h, r)),
+                  made-words strip list words m new j (omega (arith, n, z, v)),
+                ),
+              )
 
 -- a strip with an hour has a command
 pub some-bytes : (a : Ask) (heights digits site factory : List ℕ) → 1 ≤ length heights → 0 < length (stripList (stripWith a heights digits site factory))

@@ -1,16 +1,11 @@
-// What the program `strip` does: it takes the samples of a text, and writes the picture of their last hours.
+// Takes the samples of a text into a ring, and says on standard error which are refused, and why.
 ghost use mathlib.Core.Path.{_≡_};
 ghost use mathlib.Core.List.{[]};
 ghost use Rattle.ring.specs.Kept.{emptyRing, taking, ringAfter};
 ghost use Rattle.sample.specs.Line.{lineMeans, withLine, linesOf, samplesOf};
-ghost use Rattle.strip_show.specs.Drawn.{askFor, stripDrawn};
-use panel_show::Asked;
 use ring::Ring;
 use sample::SampleLine;
 use sample::Stop;
-use screen::ScreenAnswer;
-use wear::Ask;
-use wear::StripAnswer;
 
 // Says why the sample of a line is not taken.
 fn say_line(line: u64, why: &[u8]) {
@@ -48,7 +43,10 @@ fn take_line(ring: Ring, number: u64, line: &[u8]) -> Ring
             return ring;
         }
         SampleLine::Bad => {
-            say_line(number, b"no sample: not a number of at most 65535 and a height");
+            say_line(
+                number,
+                b"no sample: not a number of at most 65535 and a height",
+            );
             return ring;
         }
     }
@@ -68,41 +66,4 @@ pub fn take_lines(text: &[u8]) -> Ring
         at += n + 1;
     }
     ring
-}
-
-// Draws the strip of a ring's last hours over the memory of a screen, and writes what the panel shows, or the refusal.
-pub fn show_strip(ring: Ring, a: Ask, site: &[u8], screen: &[u8], memory: &mut [u8])
-    ensures { λ _. ⌜ now (memory .exit) ≡ stripDrawn ring a (now (site .entry)) (now (screen .entry)) (now (memory .entry)) ⌝ }
-{
-    let answer = screen_code::read_screen(screen);
-    match answer {
-        ScreenAnswer::Refused(n) => {
-            files::print_refusal(n as u64, 0);
-        }
-        ScreenAnswer::Accepted(s) => {
-            let factory = font::factory_font();
-            let mut list = [0u8; 2048];
-            let mut words = [0u16; 320];
-            let ask = Ask {
-                hours: a.hours,
-                depth: s.depth as u32,
-                x: a.x,
-                y: a.y,
-                column: a.column,
-                bar: a.bar,
-                background: a.background,
-            };
-            let made = wear_code::wear_strip(ring, ask, site, &factory, &mut list, &mut words);
-            match made {
-                StripAnswer::Refused(n) => {
-                    files::print_refusal(n as u64, 0);
-                }
-                StripAnswer::Made(bytes, count) => {
-                    let nl = bytes as usize;
-                    let nw = count as usize;
-                    panel_show::run(Asked::Picture, screen, &list[..nl], &words[..nw], memory);
-                }
-            }
-        }
-    }
 }
