@@ -13,15 +13,23 @@ ghost use Rattle.serial.specs.State.{newPlayer};
 ghost use Rattle.serial.specs.Serial.{feeding, endedPlayer, endAnswer, answerOf};
 ghost use Rattle.older.specs.Bytes.{olderMemory, olderValues};
 ghost use Rattle.older.specs.Compile.{olderCompiling, olderBuffer};
-ghost use Rattle.answers.specs.Answers.{compiledOf, displayWith, pointOf, drawnOf, valuesIn};
+ghost use Rattle.ring.specs.Kept.{emptyRing, taking, hourIn, ringIn, cellsOf};
+ghost use Rattle.wear.specs.Font.{finding};
+ghost use Rattle.wear.specs.Strip.{askWith, stripFor, stripping, listAfter, wordsAfter};
+ghost use Rattle.answers.specs.Answers.{compiledOf, displayWith, pointOf, drawnOf, valuesIn, hourGiven, stripGiven, glyphGiven};
 use answers::S1dCompiled;
 use answers::S1dDrawn;
+use answers::S1dGlyph;
+use answers::S1dHour;
 use answers::S1dPoint;
+use answers::S1dStrip;
 use answers::S1dValues;
 use reader::Display;
 use reader::Look;
+use ring::Ring;
 use serial::Answer;
 use serial::Player;
+use wear::Ask;
 
 // Compiles a screen record, a list and host words into the stream buffer.
 #[no_mangle]
@@ -204,4 +212,73 @@ pub extern "C" fn s1d06_read_point(
         81920,
     );
     answers_code::point_of(reader_code::see(depth, memory, older))
+}
+
+// A ring without a sample.
+#[no_mangle]
+pub extern "C" fn s1d_new_ring() -> Ring
+    ensures { λ r. ⌜ r ≡ emptyRing ⌝ }
+{
+    ring_code::new_ring()
+}
+
+// Takes a sample into a ring, in place.
+#[no_mangle]
+pub extern "C" fn s1d_take_sample(ring: &mut [u16; 1026], sequence: u16, height: u32) -> u32
+    ensures { λ r. ⌜ r ≡ taking (ringIn (now (ring .entry))) sequence height .number ⌝ }
+    ensures { λ r. ⌜ now (ring .exit) ≡ cellsOf (taking (ringIn (now (ring .entry))) sequence height .ring) ⌝ }
+{
+    ring_code::take_into(ring, sequence, height)
+}
+
+// What a ring tells of the hour of an age.
+#[no_mangle]
+pub extern "C" fn s1d_hour_at(ring: &[u16; 1026], age: u32) -> S1dHour
+    ensures { λ r. ⌜ r ≡ hourGiven (hourIn (ringIn (now (ring .entry))) age) ⌝ }
+{
+    let hour = ring_code::hour_in(ring, age);
+    answers_code::hour_given(hour)
+}
+
+// The strip of a ring's last hours, as a list and host words.
+#[no_mangle]
+pub extern "C" fn s1d_wear_strip<'a>(
+    ring: &[u16; 1026],
+    hours: u32,
+    depth: u32,
+    x: u16,
+    y: u16,
+    column: u32,
+    bar: u16,
+    background: u16,
+    site: &'a [u8],
+    factory: &'a [u8],
+    list: &mut [u8],
+    words: &mut [u16],
+) -> S1dStrip
+    ensures { λ r. ⌜ r ≡ stripGiven (stripping (stripFor (ringIn (now (ring .entry))) (askWith hours depth x y column bar background) (now (site .entry)) (now (factory .entry))) (length (now (list .entry))) (length (now (words .entry)))) ⌝ }
+    ensures { λ r. ⌜ now (list .exit) ≡ listAfter (stripFor (ringIn (now (ring .entry))) (askWith hours depth x y column bar background) (now (site .entry)) (now (factory .entry))) (now (list .entry)) (now (words .entry)) ⌝ }
+    ensures { λ r. ⌜ now (words .exit) ≡ wordsAfter (stripFor (ringIn (now (ring .entry))) (askWith hours depth x y column bar background) (now (site .entry)) (now (factory .entry))) (now (list .entry)) (now (words .entry)) ⌝ }
+{
+    let held = ring_code::ring_from(ring);
+    let ask = Ask {
+        hours,
+        depth,
+        x,
+        y,
+        column,
+        bar,
+        background,
+    };
+    let made = wear_code::wear_strip(held, ask, site, factory, list, words);
+    answers_code::strip_given(made)
+}
+
+// Which font has a digit's glyph, and where.
+#[no_mangle]
+pub extern "C" fn s1d_find_glyph(site: &[u8], factory: &[u8], digit: u32) -> S1dGlyph
+    ensures { λ r. ⌜ r ≡ glyphGiven (finding (length (now (site .entry))) (length (now (factory .entry))) digit) ⌝ }
+{
+    let found = wear_glyph::find_glyph(site.len() as u64, factory.len() as u64, digit);
+    answers_code::glyph_given(found)
 }

@@ -1,5 +1,6 @@
 pub mod Lists
 pub mod Commands
+pub mod Glyphs
 pub mod Fonts
 pub mod Words
 pub mod Same

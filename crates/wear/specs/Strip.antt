@@ -17,6 +17,11 @@ use Rattle.wear.specs.declared.Ask.{Ask}
 use Rattle.wear.specs.declared.StripAnswer.{StripAnswer}
 use Rattle.wear.specs.declared.StripAnswer.the-variants.{Made, Refused}
 
+-- what a caller asks for
+abbrev pub askWith : ℕ → ℕ → ℕ → ℕ → ℕ → ℕ → ℕ → Ask
+askWith hours depth x y column bar background =
+    record { hours = hours; depth = depth; x = x; y = y; column = column; bar = bar; background = background }
+
 -- the newest number's digits in a ring with or without a sample: "The newest number, if any"
 abbrev pub digitsIn : ℕ → ℕ → List ℕ
 digitsIn any newest = cond (eqb any 0) [] (digitsOf newest)
