@@ -1,13 +1,13 @@
-/* S1D13A05 display unit: compiling a drawing list, playing its stream over a display memory, whole or
- * in small blocks, and reading what a panel point shows; and, where a name begins with s1d06, the same
- * of the older units' S1D13706, which has no blits, so no commands and no player. docs/FORMATS.md has
- * the records, registers and pixels by bytes and bits, and docs/TRUST.md what is proved and what is
- * assumed.
+/* S1D13A05 display unit: keeping hourly samples and making the drawing list of the wear strip that shows
+ * the last of them, compiling a drawing list, playing its stream over a display memory, whole or in
+ * small blocks, and reading what a panel point shows; and, where a name begins with s1d06, the same of
+ * the older units' S1D13706, which has no blits, so no commands and no player. docs/FORMATS.md has the
+ * records, registers and pixels by bytes and bits, and docs/TRUST.md what is proved and what is assumed.
  *
  * Pointers. Each pointer is followed by its length in elements, but for values, which has six, bytes,
- * which has eighteen, and player, which is one. It is valid for that length, and not null even where
- * the length is 0. A buffer that is written overlaps no other one of the same call. No function keeps a
- * pointer, allocates, or blocks.
+ * which has eighteen, and player and ring, which are one. It is valid for that length, and not null even
+ * where the length is 0. A buffer that is written overlaps no other one of the same call. No function
+ * keeps a pointer, allocates, or blocks.
  *
  * Answers. number is 0 where the input is accepted, else the refusal, one of s1d_refusal. A refusal
  * leaves every buffer as it was, and every other number of the answer is 0, but for place (and the
@@ -30,6 +30,14 @@ extern "C" {
 #define S1D_STREAM_RECORD_LENGTH 8 /* bytes of a stream record */
 #define S1D_BLOCK_LENGTH 64        /* most bytes of a block that s1d_feed takes */
 #define S1D_MEMORY_LENGTH 262144   /* bytes of the display memory */
+#define S1D_RING_HOURS 512         /* hours of a ring */
+#define S1D_STRIP_HOURS 24         /* most hours of a wear strip */
+#define S1D_STRIP_COLUMN 16        /* most pixels of a column's width */
+#define S1D_STRIP_LINES 100        /* lines of a column, and the greatest height of a sample */
+#define S1D_STRIP_COMMANDS 53      /* most commands of a strip: two for each hour, one for each digit */
+#define S1D_STRIP_WORDS 320        /* most host words of a strip: five digits at depth 16 */
+#define S1D_GLYPH_LENGTH 8         /* bytes of a glyph: a byte for each line */
+#define S1D_FONT_LENGTH 80         /* bytes of a whole font: digits 0 to 9 */
 #define S1D06_MEMORY_LENGTH 81920  /* bytes of the S1D13706's display memory */
 #define S1D06_REGISTERS 18         /* its display registers, a byte each */
 #define S1D06_STREAM_LENGTH 144    /* bytes of its stream: a record for each of them */
@@ -67,9 +75,9 @@ enum s1d_raster {
  *
  * Refusals. The first whose text holds is given, in the order of the numbers, but that 26 is checked
  * after 5 for main and after 8 for the window, and that commands (12 to 15) and stream records (20 to
- * 23) are checked one after another; s1d_read_point, s1d_draw, s1d_feed and s1d_end name their own
- * order. 7 to 9, and 26 for the window, apply with flag 1 only. The functions of the S1D13706 ask 6, 9
- * and 18 with 81920, 25 with 20479, and give 11 for any list that is not empty.
+ * 23) are checked one after another; s1d_read_point, s1d_draw, s1d_feed, s1d_end and s1d_wear_strip
+ * name their own order. 7 to 9, and 26 for the window, apply with flag 1 only. The functions of the
+ * S1D13706 ask 6, 9 and 18 with 81920, 25 with 20479, and give 11 for any list that is not empty.
  *
  * place is the command's index for 12 to 15, the stream record's for 20 to 23, else 0. Both count
  * from 0. */
@@ -92,7 +100,8 @@ enum s1d_refusal {
     S1D_RECTANGLE_OUTSIDE = 14, /* destination, or a move's source, not inside the surface */
     S1D_WORDS_MISSING = 15,     /* too few host words for this and the earlier writes */
     S1D_WORDS_LEFT = 16,        /* host words left over at the end */
-    S1D_STREAM_ROOM = 17,       /* stream buffer shorter than the stream */
+    S1D_STREAM_ROOM = 17,       /* stream buffer shorter than the stream; a wear strip's list or word buffer too
+                                   short */
     S1D_MEMORY_FORM = 18,       /* memory not 262144 bytes */
     S1D_STREAM_FORM = 19,       /* stream not a multiple of 8 bytes */
     S1D_RECORD_NUMBER = 20,     /* number not a listed register nor 10000h */
@@ -104,6 +113,9 @@ enum s1d_refusal {
     S1D_POINT_ADDRESS = 25,     /* the point's dword address outside 0 to 65535 */
     S1D_LINE_LENGTH = 26,       /* a line length other than 0 below the shown width, not a multiple of
                                    32 / depth, or over 1023 dwords */
+    S1D_WEAR_LIMIT = 27,        /* a sample that is not the first and not 1 to 512 steps ahead, or is above 100;
+                                   an age above 511; of a wear strip: hours not 1 to 24, column not 1 to 16, a
+                                   factory font under 80 bytes, a command's x or y past 65535; a digit above 9 */
     S1D_BLOCK_FORM = 32         /* block over 64 bytes */
 };
 
@@ -170,6 +182,34 @@ typedef struct s1d_drawn {
     uint32_t values[6]; /* as in s1d_played */
 } s1d_drawn;
 
+/* The samples of the last 512 hours. It has no pointer and may be copied; what it holds is for the
+ * functions below. Any contents are a ring, also those that no samples lead to. */
+typedef struct s1d_ring {
+    uint16_t any;          /* 0: there is no sample; any other number: there is one */
+    uint16_t newest;       /* the newest sample's sequence number */
+    uint16_t numbers[512]; /* by sequence number modulo 512: the number of the sample there */
+    uint16_t heights[512]; /* and its height + 1; 0 for a blank hour */
+} s1d_ring;
+
+typedef struct s1d_hour {
+    uint32_t number;
+    uint32_t sampled; /* 1 where the hour has a sample, 0 where it is blank */
+    uint32_t height;  /* the sample's, 0 to 100; 0 where it is blank */
+} s1d_hour;
+
+typedef struct s1d_strip {
+    uint32_t number;
+    uint64_t list_length;  /* bytes of the list */
+    uint64_t words_length; /* host words */
+} s1d_strip;
+
+typedef struct s1d_glyph {
+    uint32_t number;
+    uint32_t site;   /* 1: a part of the site font; 0: of the factory font */
+    uint64_t at;     /* where the glyph begins in that font */
+    uint64_t length; /* its 8 bytes */
+} s1d_glyph;
+
 /* Compiles a screen record and a list of commands into a stream. words are the pixels of the writes,
  * in order. The answer has the stream's length and the depth, rotation and flag for the settings
  * register; bytes past the stream keep their contents. S1D_STREAM_LENGTH of the list's commands and
@@ -223,6 +263,51 @@ s1d_drawn s1d_draw(const uint8_t *screen, size_t screen_length,
                    const uint16_t *words, size_t words_length,
                    uint8_t *stream, size_t stream_length,
                    uint8_t *memory, size_t memory_length);
+
+/* A ring with no sample. */
+s1d_ring s1d_new_ring(void);
+
+/* Takes the sample of an hour into the ring. Sequence numbers count hours, and run on from 65535 to 0. It
+ * is taken where it is the first or 1 to 512 steps ahead of the newest, and height is 0 to 100; the hours
+ * between the two are then blank, and hours 512 or more behind it fall off. Gives 0, or 27, and then the
+ * ring is as it was. */
+uint32_t s1d_take_sample(s1d_ring *ring, uint16_t sequence, uint32_t height);
+
+/* What the ring has of the hour of an age: 0 is the newest sample's hour, 511 the last. In a ring with no
+ * sample all of them are blank. Changes nothing. Refusal 27 (age above 511). */
+s1d_hour s1d_hour_at(const s1d_ring *ring, uint32_t age);
+
+/* Makes the list and the host words of the wear strip of the last hours, for s1d_compile or s1d_draw on a
+ * screen of this depth. (x, y) is the strip's upper left pixel on the main image, column the width of an
+ * hour's column. From the left, oldest hour first, each column is a fill of the background, 100 lines high,
+ * and then, where its hour has a sample that is not 0, a fill with the bar colour, as many lines high as
+ * the sample, down to the lowest line. Then, where the ring has a sample, the newest number follows below
+ * the columns, in decimal without leading zeros: from x on a write for each digit, of 8 x 8 pixels, with
+ * code S1D_COPY; its pixels are bar where the glyph has a 1 and background where it has a 0.
+ *
+ * A font has the glyphs of the digits from 0 on, 8 bytes each, a byte for each line from the top, the
+ * highest bit on the left. A digit is drawn with the site font's glyph where that font has all 8 bytes,
+ * else with the factory font's; site_length may be 0.
+ *
+ * The answer has both lengths; what lies past them in either buffer keeps its contents. A list buffer of
+ * S1D_COMMAND_LENGTH x S1D_STRIP_COMMANDS bytes and a word buffer of S1D_STRIP_WORDS are always enough.
+ * The ring is not changed.
+ * Refusals, in the order of checking: 2; 11 (depth below 8); 12 (a colour above 255 at depth 8); 27 (hours,
+ * column, factory_length, with digits to draw or without, or the x or y of a command that the list would
+ * have); 17. */
+s1d_strip s1d_wear_strip(const s1d_ring *ring, uint32_t hours, uint32_t depth,
+                         uint16_t x, uint16_t y, uint32_t column,
+                         uint16_t bar, uint16_t background,
+                         const uint8_t *site, size_t site_length,
+                         const uint8_t *factory, size_t factory_length,
+                         uint8_t *list, size_t list_length,
+                         uint16_t *words, size_t words_length);
+
+/* Where a digit's glyph is: the 8 bytes from 8 x digit on of the site font, where it has them all, else of
+ * the factory font. Refusal 27 (factory_length under 80, digit above 9). */
+s1d_glyph s1d_find_glyph(const uint8_t *site, size_t site_length,
+                         const uint8_t *factory, size_t factory_length,
+                         uint32_t digit);
 
 /* Compiles a screen record into the byte writes of the S1D13706: a record for each register, its number
  * and a byte, in the order 74h 75h 76h main start; 78h 79h main offset; 7Ch 7Dh 7Eh window start; 80h 81h
