@@ -3,3 +3,4 @@ pub mod Told
 pub mod Stored
 pub mod Ages
 pub mod Tells
+pub mod Cases

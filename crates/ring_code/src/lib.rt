@@ -157,7 +157,7 @@ pub fn hour_in(cells: &[u16; 1026], age: u32) -> Hour
     ensures { λ r. ⌜ tellingOf r ≡ hourIn (ringIn (now (cells .entry))) age ⌝ }
     ensures { λ r. ⌜ r ≡ hourOf (hourIn (ringIn (now (cells .entry))) age) ⌝ }
 {
-    if 511 < age {
+    if age > 511 {
         return Hour::Refused(27);
     }
     let newest = cells[1];
