@@ -45,10 +45,10 @@ returns : tie.Need-returns
 returns c = word-narrow _ _ _ _ _ (c .before .before .if1 .taken) (c .before .glyph-colour .ensures) (c .glyph-colour2 .ensures)
 
 cast-glyph-colour-3 : tie.Need-cast-glyph-colour-3
-cast-glyph-colour-3 c = search needs
+cast-glyph-colour-3 c = omega (arith, words-wide _ (c .if1 .left))
 
 glyph-colour-requires-3 : tie.Need-glyph-colour-requires-3
-glyph-colour-requires-3 c κs = (omega (arith, words-wide _ (c .if1 .left)), omega arith)
+glyph-colour-requires-3 c κs = let n = words-wide _ (c .if1 .left) in (omega arith, omega arith)
 
 returns-2 : tie.Need-returns-2
 returns-2 c = word-wide _ _ _ _ (c .before .if1 .left) (c .glyph-colour3 .ensures)
