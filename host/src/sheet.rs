@@ -133,7 +133,18 @@ pub fn seen(screen: &[u8], p: usize, q: usize) -> (u8, usize, usize) {
     }
 }
 
-/// The same with the surface itself.
+/// The panel point of a view's pixel (u, v).
+pub fn panel_point(screen: &[u8], u: usize, v: usize) -> (usize, usize) {
+    let (panel_width, panel_height) = (number(screen, 4), number(screen, 6));
+    match screen[1] {
+        0 => (u, v),
+        1 => (v, panel_height - 1 - u),
+        2 => (panel_width - 1 - u, panel_height - 1 - v),
+        _ => (panel_width - 1 - v, u),
+    }
+}
+
+/// The same as `seen`, with the surface itself.
 fn shown(screen: &[u8], p: usize, q: usize) -> (Surface, usize, usize) {
     let (which, x, y) = seen(screen, p, q);
     (surface(screen, which), x, y)
