@@ -68,11 +68,13 @@ pub fn take_sample(ring: &mut Ring, sequence: u16, height: u32) -> u32 {
     }
     // The hours that are skipped take the oldest ones' places.
     let (old, new) = (ring.front, (ring.front + HOURS - steps) % HOURS);
-    if new < old {
-        ring.hours[new + 1..old].fill(BLANK);
-    } else {
-        ring.hours[..old].fill(BLANK);
-        ring.hours[new + 1..].fill(BLANK);
+    match steps {
+        1 => {}
+        _ if new < old => ring.hours[new + 1..old].fill(BLANK),
+        _ => {
+            ring.hours[..old].fill(BLANK);
+            ring.hours[new + 1..].fill(BLANK);
+        }
     }
     ring.hours[new] = height as u8;
     (ring.front, ring.newest) = (new, Some(sequence));

@@ -1,4 +1,4 @@
-//! Paper 01's cases S1 to S9 and B1 to B4, cases of paper 02's requests a), c), d), e) and f), and 001's
+//! Paper 01's cases S1 to S9 and B1 to B4, cases of paper 02's requests a) and c) to f), and 001's
 //! examples 1 to 8, on the reference, and on the library where it is linked.
 
 use host::answers::{Compiled, Drawn, Form, Glyph, Hour, Played, Player, Point, Settings, Strip};

@@ -1029,8 +1029,8 @@ impl Bench {
         Ok(())
     }
 
-    /// One of the library's rings that holds any numbers: what it tells, that refused samples change
-    /// nothing, and that strips show what it tells.
+    /// One of the library's rings that holds any numbers: what it tells before and after samples, that
+    /// refused ones change nothing, and that a strip shows what it tells.
     fn any_ring(&mut self, rng: &mut Rng) -> Checked {
         let numbers = inputs::ring(rng);
         let mut ring = unit::ring_of(&numbers);
@@ -1041,18 +1041,20 @@ impl Bench {
             given.push((sequence, height));
             let input = || format!("  samples: {given:?}\n  ring: {}", hex_words(&numbers));
             let before = ring.clone();
-            let steps = told.newest.map(|newest| sequence.wrapping_sub(newest));
-            let good = steps.is_none_or(|steps| (1..=512).contains(&steps)) && height <= 100;
+            // The first sample leaves no other hour.
+            let steps = told.newest.map_or(HOURS, |newest| sequence.wrapping_sub(newest).into());
+            let good = (1..=HOURS).contains(&steps) && height <= 100;
             let number = unit::take_sample(&mut ring, sequence, height);
             same("sample for a ring of any numbers", if good { 0 } else { 27 }, number, input)?;
-            let after = self.told_by(rng, &ring, input)?;
-            if number == 0 {
-                same("the newest number", Some(sequence), after.newest, input)?;
-                same("the newest hour", Some(height), after.heights[0], input)?;
+            if good {
+                let mut heights = vec![None; steps];
+                heights[0] = Some(height);
+                heights.extend(&told.heights[..HOURS - steps]);
+                told = Told { newest: Some(sequence), heights };
             } else {
                 same("ring of a refusal", &before, &ring, input)?;
             }
-            told = after;
+            same("told by a ring of any numbers", &told, &self.told_by(rng, &ring, input)?, input)?;
         }
         let input = || format!("  samples: {given:?}\n  ring: {}", hex_words(&numbers));
         let (asked, _) = inputs::asked(rng, &told);
