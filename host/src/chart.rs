@@ -134,7 +134,7 @@ impl Told {
         let past = |operation: u8, place: fn(&Command) -> u64| {
             commands.iter().any(|c| c.operation == operation && place(c) > 65_535)
         };
-        let (x, y): (fn(&Command) -> u64, fn(&Command) -> u64) = (|c| c.x, |c| c.y);
+        let [x, y]: [fn(&Command) -> u64; 2] = [|c| c.x, |c| c.y];
         [hours, column, font, past(0, x), past(2, x), past(0, y), past(2, y)]
     }
 

@@ -189,7 +189,13 @@ impl Worn {
             ("pictures at depth 16 by rotation and flag", self.pictures[1].concat()),
             ("columns seen blank, of height 0, of height 100", self.columns.to_vec()),
         ];
-        for (i, what) in ["factory's", "site's", "factory's, the site's in part"].iter().enumerate()
+        for (i, what) in [
+            "digits drawn with the factory's glyph",
+            "digits drawn with the site's",
+            "digits drawn with the factory's, the site having a part",
+        ]
+        .into_iter()
+        .enumerate()
         {
             rows.push((what, self.glyphs.map(|digit| digit[i]).to_vec()));
         }
