@@ -78,3 +78,46 @@ pub struct Settings {
     pub height: u32,
     pub values: [u32; 6],
 }
+
+/// What an hour of the ring holds; blank, `sampled` and `height` are 0.
+#[repr(C)]
+#[derive(Clone, Copy, Debug, Default, PartialEq, Eq)]
+pub struct Hour {
+    pub number: u32,
+    pub sampled: u32,
+    pub height: u32,
+}
+
+#[repr(C)]
+#[derive(Clone, Copy, Debug, Default, PartialEq, Eq)]
+pub struct Strip {
+    pub number: u32,
+    /// In bytes.
+    pub list_length: u64,
+    /// In words.
+    pub words_length: u64,
+}
+
+/// A digit's glyph: the part of the site font (1) or of the factory font (0) that it is.
+#[repr(C)]
+#[derive(Clone, Copy, Debug, Default, PartialEq, Eq)]
+pub struct Glyph {
+    pub number: u32,
+    pub site: u32,
+    pub at: u64,
+    pub length: u64,
+}
+
+/// What a strip is asked for, besides the ring and the fonts.
+#[derive(Clone, Copy, Debug, PartialEq, Eq)]
+pub struct Form {
+    pub hours: u32,
+    pub depth: u32,
+    /// The upper left corner.
+    pub x: u16,
+    pub y: u16,
+    /// A column's width.
+    pub column: u32,
+    pub bar: u16,
+    pub background: u16,
+}

@@ -1,6 +1,8 @@
-//! Random inputs, from a seed: records, lists, words, streams, players and points, whole and damaged.
+//! Random inputs, from a seed: records, lists, words, streams, players, points, samples and strips,
+//! whole and damaged.
 
-use crate::answers::{Player, Settings};
+use crate::answers::{Form, Player, Settings};
+use crate::chart::Told;
 
 /// Bytes of the display memory, and of the older chip's.
 const MEMORY: u64 = 262_144;
@@ -193,7 +195,7 @@ pub fn screen(rng: &mut Rng, memory: u64) -> Vec<u8> {
     let depth = rng.pick(&[1, 2, 4, 8, 8, 8, 16, 16, 16]);
     let rotation = rng.below(4);
     let k = 32 / depth;
-    let (mut width, mut height) = if rotation % 2 == 0 {
+    let (width, mut height) = if rotation % 2 == 0 {
         let step = k.max(8);
         (step * rng.size(1024 / step), rng.size(1024))
     } else {
@@ -201,6 +203,17 @@ pub fn screen(rng: &mut Rng, memory: u64) -> Vec<u8> {
     };
     let most = memory * 8 / (width * depth);
     height = height.min(if rotation % 2 == 0 { most } else { most / 8 * 8 });
+    screen_of(rng, memory, (depth, rotation), (width, height))
+}
+
+/// The same of a depth, a rotation and the view's size.
+fn screen_of(
+    rng: &mut Rng,
+    memory: u64,
+    (depth, rotation): (u64, u64),
+    (mut width, mut height): (u64, u64),
+) -> Vec<u8> {
+    let k = 32 / depth;
     let mut record = vec![0; 32];
     set(&mut record, 0, 1, depth);
     set(&mut record, 1, 1, rotation);
@@ -725,4 +738,286 @@ pub fn point(rng: &mut Rng, memory: u64) -> (Settings, u32, u32) {
         *number = rng.near((*number).into()) as u32;
     }
     (settings, p, q)
+}
+
+// ---- Samples and strips ----
+
+/// Samples for an empty ring, each a number and a height: mostly accepted, in steps of one kind, often
+/// many rounds of the numbers.
+pub fn samples(rng: &mut Rng) -> Vec<(u16, u32)> {
+    let count = match rng.below(16) {
+        0 => 0,
+        1 => 1,
+        2..=8 => rng.between(1, 40),
+        9..=13 => rng.between(1, 700),
+        _ => rng.between(1, 3000),
+    };
+    let kind = rng.below(8);
+    let refused = rng.pick(&[2, 8, 50, 1000]);
+    let mut newest = match rng.below(4) {
+        0 => rng.pick(&[0, 1, 511, 512, 65_535]),
+        1 => (65_536 - rng.below(count + 1)) as u16,
+        _ => rng.any() as u16,
+    };
+    let mut any = false;
+    let mut samples = Vec::new();
+    for _ in 0..count {
+        let mut steps = match kind {
+            0 => 1,
+            1 => rng.pick(&[1, 1, 1, 1, 1, 1, 2, 3, 24]),
+            2 => rng.between(1, 30),
+            3 => 512 - rng.below(3),
+            4 => rng.pick(&[1, 2, 255, 256, 257, 511, 512]),
+            5 if rng.one_in(8) => rng.between(1, 512),
+            5 => 1,
+            _ => rng.between(1, 512),
+        };
+        let mut height = match rng.below(4) {
+            0 => rng.pick(&[0, 0, 1, 99, 100]),
+            _ => rng.below(101),
+        };
+        let bad = if rng.one_in(refused) { rng.between(1, 3) } else { 0 };
+        if bad & 1 != 0 {
+            steps = match rng.below(4) {
+                0 => 0,
+                1 => rng.pick(&[513, 514, 1024, 65_024, 65_535]),
+                _ => rng.between(513, 65_535),
+            };
+        }
+        if bad & 2 != 0 {
+            // Also such as are right in their low bits.
+            height = match rng.below(4) {
+                0 => 101,
+                1 => rng.between(101, 300),
+                2 => height + (1 << rng.between(8, 31)),
+                _ => rng.between(101, u32::MAX.into()),
+            };
+        }
+        // The first is taken with any steps.
+        let sequence = newest.wrapping_add(steps as u16);
+        samples.push((sequence, height as u32));
+        if bad == 0 || bad == 1 && !any {
+            (newest, any) = (sequence, true);
+        }
+    }
+    samples
+}
+
+/// Ages to ask for besides 0 to 511.
+pub fn far_ages(rng: &mut Rng) -> [u32; 6] {
+    let any = rng.any() as u32 >> rng.below(22);
+    [512, 513, 65_535, 65_536 + rng.below(512) as u32, u32::MAX, any.max(512)]
+}
+
+/// The numbers of a ring that mostly no samples lead to: the flag, the newest number, 512 numbers and
+/// 512 heights.
+pub fn ring(rng: &mut Rng) -> [u16; 1026] {
+    let newest = rng.any() as u16;
+    let mut ring = [0; 1026];
+    ring[0] = rng.pick(&[0, 1, 1, 1, 2, 0x100, 0x8000, 0xFFFF]);
+    ring[1] = newest;
+    // How many of them are any, how many a round old, and the rest as samples leave them.
+    let (any, old) = (rng.pick(&[1, 8, 600]), rng.pick(&[2, 8, 600]));
+    for slot in 0..512u16 {
+        let age = newest.wrapping_sub(slot) % 512;
+        let number = match () {
+            _ if rng.one_in(any) => rng.any() as u16,
+            _ if rng.one_in(old) => newest.wrapping_sub(age + 512),
+            _ => newest.wrapping_sub(age),
+        };
+        let height = match rng.below(8) {
+            0 => rng.any() as u16,
+            1 => rng.pick(&[0, 1, 99, 100, 101, 102, 255, 256, 356, 0x7FFF, 0x8000, 0xFFFF]),
+            _ => rng.below(101) as u16,
+        };
+        ring[2 + usize::from(slot)] = number;
+        ring[514 + usize::from(slot)] = height;
+    }
+    ring
+}
+
+/// A sample for a ring with a newest number: any, or near the limits.
+pub fn sample(rng: &mut Rng, newest: Option<u16>) -> (u16, u32) {
+    let steps = match rng.below(4) {
+        0 => rng.any(),
+        1 => rng.pick(&[0, 1, 2, 511, 512, 513, 65_024, 65_535]),
+        _ => rng.between(1, 512),
+    };
+    let height = match rng.below(8) {
+        0 => rng.any() as u32 >> rng.below(32),
+        1 => rng.pick(&[0, 99, 100, 101, 256, 65_636]),
+        _ => rng.below(101) as u32,
+    };
+    (newest.unwrap_or(0).wrapping_add(steps as u16), height)
+}
+
+/// A font: mostly whole, as long as a font or longer by a bit; or cut anywhere.
+fn font(rng: &mut Rng, whole: bool) -> Vec<u8> {
+    let length = match rng.below(4) {
+        0 => 80,
+        1 => rng.between(80, 100),
+        2 if whole => 80,
+        2 => 8 * rng.between(0, 10) + rng.below(8),
+        _ if whole => rng.between(80, 100),
+        _ => rng.between(0, 100),
+    };
+    (0..length).map(|_| rng.any() as u8).collect()
+}
+
+/// The site's font and the factory's: the site's any, the factory's mostly whole.
+pub fn fonts(rng: &mut Rng) -> [Vec<u8>; 2] {
+    let site = if rng.one_in(4) { Vec::new() } else { font(rng, false) };
+    let mut factory = font(rng, true);
+    if rng.one_in(16) {
+        let length = rng.pick(&[79, 79, 79, 72, 8, 1, 0]);
+        factory.truncate(length);
+    }
+    [site, factory]
+}
+
+/// A number of a digit: mostly one.
+pub fn digit(rng: &mut Rng) -> u32 {
+    match rng.below(8) {
+        0 => rng.any() as u32 >> rng.below(32),
+        1 => rng.pick(&[9, 10, 11, 255, 256, 265, 65_536, 1 << 29, u32::MAX]),
+        _ => rng.below(10) as u32,
+    }
+}
+
+/// What a strip is given besides its ring; the rooms are the buffers' lengths.
+pub struct Asked {
+    pub form: Form,
+    pub site: Vec<u8>,
+    pub factory: Vec<u8>,
+    pub list_room: usize,
+    pub words_room: usize,
+}
+
+/// What a strip of a ring is given: mostly right. In half of them the corner is such that the strip
+/// lies on a screen, which comes with it.
+pub fn asked(rng: &mut Rng, told: &Told) -> (Asked, Option<Vec<u8>>) {
+    let mut form = form(rng);
+    let [site, factory] = fonts(rng);
+    let mut screen = None;
+    if rng.one_in(2) {
+        let (record, x, y) = screen_for(rng, form.depth, told.size(&form));
+        (form.x, form.y) = (x, y);
+        screen = Some(record);
+    } else {
+        corner(rng, &mut form, told);
+        for _ in 0..rng.pick(&[0, 0, 0, 1, 1, 1, 2, 4]) {
+            damage_form(rng, &mut form);
+        }
+    }
+    let made = told.strip(&form, &site, &factory);
+    let (list, words) = made.map_or((960, 160), |(list, words)| (list.len(), words.len()));
+    let (list_room, words_room) = (room(rng, list), room(rng, words));
+    (Asked { form, site, factory, list_room, words_room }, screen)
+}
+
+/// What a strip is asked for; the corner is (0, 0), and all is right.
+fn form(rng: &mut Rng) -> Form {
+    let depth = rng.pick(&[8, 16]);
+    let mut colour = || rng.any() as u16 & if depth == 8 { 0xFF } else { 0xFFFF };
+    let (bar, background) = (colour(), colour());
+    let hours = if rng.one_in(3) { 24 } else { rng.between(1, 24) } as u32;
+    let column = if rng.one_in(3) { rng.pick(&[1, 16]) } else { rng.between(1, 16) } as u32;
+    Form { hours, depth, x: 0, y: 0, column, bar, background }
+}
+
+/// A corner for a strip that is not drawn: any, near none or near 65,535, often such that a command's
+/// x or y is at the limit or just past it.
+fn corner(rng: &mut Rng, form: &mut Form, told: &Told) {
+    let digits = told.digits().len() as u32;
+    let bars = (0..form.hours).filter_map(|c| told.bar(form, c));
+    let (columns, low) = ((form.hours - 1) * form.column, 100 - bars.min().unwrap_or(100));
+    let mut place = |ends: [u32; 2]| match rng.below(4) {
+        0 => rng.any() as u16,
+        1 => rng.below(1000) as u16,
+        _ => (65_535 + rng.below(3) as u32 - rng.pick(&ends)).clamp(0, 65_535) as u16,
+    };
+    form.x = place([columns, 8 * digits.saturating_sub(1)]);
+    form.y = place([low, 100]);
+}
+
+/// Puts something wrong into what a strip is asked for; now and then it stays right.
+fn damage_form(rng: &mut Rng, form: &mut Form) {
+    let any = rng.any() as u32 >> rng.below(32);
+    match rng.below(6) {
+        0 => {
+            let odd = [0, 1, 2, 3, 4, 1, 2, 4, 5, 7, 9, 12, 15, 17, 24, 32, 264, 65_544, any];
+            form.depth = rng.pick(&odd);
+        }
+        1 => form.hours = rng.pick(&[0, 25, 0, 25, 26, 255, 256, 257, 65_537, u32::MAX, any]),
+        2 => form.column = rng.pick(&[0, 17, 0, 17, 18, 255, 256, 257, 65_537, u32::MAX, any]),
+        3 => form.bar = rng.pick(&[255, 256, 256, 257, 65_535, any as u16]),
+        4 => form.background = rng.pick(&[255, 256, 256, 257, 65_535, any as u16]),
+        _ => (form.bar, form.background) = (any as u16, rng.any() as u16),
+    }
+}
+
+/// The room of a buffer for a result of so many: mostly as much or more, or one short, or any less.
+fn room(rng: &mut Rng, length: usize) -> usize {
+    let less = rng.below(length as u64 + 1) as usize;
+    match rng.below(16) {
+        0 => length.saturating_sub(1),
+        1 => less,
+        2..=8 => length,
+        _ => length + rng.size(100) as usize,
+    }
+}
+
+/// A screen of a depth, 8 or 16, whose view holds a rectangle, and a corner for it there.
+fn screen_for(rng: &mut Rng, depth: u32, (width, height): (u32, u32)) -> (Vec<u8>, u16, u16) {
+    let (depth, width, height) = (u64::from(depth), u64::from(width), u64::from(height));
+    let rotation = rng.below(4);
+    let k = 32 / depth;
+    let (step, line_step) = if rotation % 2 == 0 { (k.max(8), 1) } else { (k, 8) };
+    let mut least_or_more = |least: u64, most: u64, step: u64| {
+        let (least, most) = (least.div_ceil(step), most / step);
+        step * (least + rng.offset(most - least))
+    };
+    let across = least_or_more(width, 1024, step);
+    let most = (MEMORY * 8 / (across * depth)).min(1024);
+    let down = least_or_more(height, most, line_step);
+    let record = screen_of(rng, MEMORY, (depth, rotation), (across, down));
+    (record, rng.offset(across - width) as u16, rng.offset(down - height) as u16)
+}
+
+/// Pixels of the view to look at, on a strip that is drawn there: of each column the top line, the
+/// lowest, and those where the bar begins; the digits; and any in the strip and close around it. Now
+/// and then all of these.
+pub fn pixels(rng: &mut Rng, told: &Told, form: &Form, screen: &[u8]) -> Vec<(usize, usize)> {
+    let (mut across, mut down) = (field(screen, 4, 2), field(screen, 6, 2));
+    if screen[1] % 2 == 1 {
+        (across, down) = (down, across);
+    }
+    let (x, y) = (u64::from(form.x), u64::from(form.y));
+    let (width, height) = told.size(form);
+    let lefts = x.saturating_sub(2)..(x + u64::from(width) + 2).min(across);
+    let tops = y.saturating_sub(2)..(y + u64::from(height) + 2).min(down);
+    let mut pixels = Vec::new();
+    if rng.one_in(32) {
+        for v in tops {
+            pixels.extend(lefts.clone().map(|u| (u as usize, v as usize)));
+        }
+        return pixels;
+    }
+    for c in 0..form.hours {
+        let left = x + u64::from(c * form.column);
+        let bar = u64::from(told.bar(form, c).unwrap_or(0));
+        for line in [0, (100 - bar).saturating_sub(1), (100 - bar).min(99), 99] {
+            let u = left + rng.offset(u64::from(form.column) - 1);
+            pixels.push((u as usize, (y + line) as usize));
+        }
+    }
+    for i in 0..8 * told.digits().len() as u64 {
+        pixels.extend((100..108).map(|line| ((x + i) as usize, (y + line) as usize)));
+    }
+    for _ in 0..100 {
+        let u = rng.between(lefts.start, lefts.end - 1);
+        let v = rng.between(tops.start, tops.end - 1);
+        pixels.push((u as usize, v as usize));
+    }
+    pixels
 }

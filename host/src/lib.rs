@@ -5,6 +5,8 @@
 //!   compared with and timed against.
 //! - `serial`: playing in blocks, request a) of paper 02, to the same ends.
 //! - `older`: the older chip, request d): compiling, its values and the point reader; not timed.
+//! - `wear`: the ring of samples and the strip, request f), to the same ends as `reference`.
+//! - `chart`: the same from the list of accepted samples, command by command and pixel by pixel.
 //! - `sheet`: the plain sheet, pixel by pixel from the commands, with no register or direction.
 //! - `literal`: an accepted stream played one pixel at a time, in the direction named.
 //! - `unit`: the library, where build.rs found it.
@@ -13,6 +15,7 @@
 #![allow(clippy::manual_is_multiple_of, clippy::manual_div_ceil)]
 
 pub mod answers;
+pub mod chart;
 pub mod inputs;
 pub mod literal;
 pub mod older;
@@ -21,12 +24,19 @@ pub mod serial;
 pub mod sheet;
 #[cfg(unit)]
 pub mod unit;
+pub mod wear;
 /// Stands in where the library is not there: the reference against itself.
 #[cfg(not(unit))]
 pub mod unit {
     pub use crate::older;
     pub use crate::reference::{compile, draw, play, read_point};
     pub use crate::serial::{end, feed, new_player};
+    pub use crate::wear::{find_glyph, hour_at, new_ring, newest, take_sample, wear_strip, Ring};
+
+    /// The library's ring may hold any numbers; the reference's may not.
+    pub fn ring_of(_: &[u16; 1026]) -> Ring {
+        new_ring()
+    }
 }
 
 /// Whether the library is linked.

@@ -113,8 +113,8 @@ pub fn draw(screen: &[u8], list: &[u8], words: &[u16], sheet: &mut [u8]) {
     }
 }
 
-/// The surface that panel point (p, q) shows, and the pixel of it.
-fn shown(screen: &[u8], p: usize, q: usize) -> (Surface, usize, usize) {
+/// The surface that panel point (p, q) shows, main (0) or the window (1), and the pixel of it.
+pub fn seen(screen: &[u8], p: usize, q: usize) -> (u8, usize, usize) {
     let (panel_width, panel_height) = (number(screen, 4), number(screen, 6));
     let (u, v) = match screen[1] {
         0 => (p, q),
@@ -127,10 +127,27 @@ fn shown(screen: &[u8], p: usize, q: usize) -> (Surface, usize, usize) {
     let in_window =
         screen[2] == 1 && (x..x + window.width).contains(&u) && (y..y + window.height).contains(&v);
     if in_window {
-        (window, u - x, v - y)
+        (1, u - x, v - y)
     } else {
-        (surface(screen, 0), u, v)
+        (0, u, v)
     }
+}
+
+/// The panel point of a view's pixel (u, v).
+pub fn panel_point(screen: &[u8], u: usize, v: usize) -> (usize, usize) {
+    let (panel_width, panel_height) = (number(screen, 4), number(screen, 6));
+    match screen[1] {
+        0 => (u, v),
+        1 => (v, panel_height - 1 - u),
+        2 => (panel_width - 1 - u, panel_height - 1 - v),
+        _ => (panel_width - 1 - v, u),
+    }
+}
+
+/// The same as `seen`, with the surface itself.
+fn shown(screen: &[u8], p: usize, q: usize) -> (Surface, usize, usize) {
+    let (which, x, y) = seen(screen, p, q);
+    (surface(screen, which), x, y)
 }
 
 /// What the sheet shows at panel point (p, q).

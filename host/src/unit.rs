@@ -1,6 +1,18 @@
 //! The proved library, by the functions of include/s1d.h.
 
-use crate::answers::{Compiled, Drawn, Played, Player, Point, Settings, Values};
+use crate::answers::{
+    Compiled, Drawn, Form, Glyph, Hour, Played, Player, Point, Settings, Strip, Values,
+};
+
+/// The library's ring. Any numbers are a ring.
+#[repr(C)]
+#[derive(Clone, Debug, PartialEq, Eq)]
+pub struct Ring {
+    any: u16,
+    newest: u16,
+    numbers: [u16; 512],
+    heights: [u16; 512],
+}
 
 extern "C" {
     fn s1d_compile(
@@ -58,6 +70,39 @@ extern "C" {
         memory: *mut u8,
         memory_length: usize,
     ) -> Drawn;
+
+    fn s1d_new_ring() -> Ring;
+
+    fn s1d_take_sample(ring: *mut Ring, sequence: u16, height: u32) -> u32;
+
+    fn s1d_hour_at(ring: *const Ring, age: u32) -> Hour;
+
+    fn s1d_wear_strip(
+        ring: *const Ring,
+        hours: u32,
+        depth: u32,
+        x: u16,
+        y: u16,
+        column: u32,
+        bar: u16,
+        background: u16,
+        site: *const u8,
+        site_length: usize,
+        factory: *const u8,
+        factory_length: usize,
+        list: *mut u8,
+        list_room: usize,
+        words: *mut u16,
+        words_room: usize,
+    ) -> Strip;
+
+    fn s1d_find_glyph(
+        site: *const u8,
+        site_length: usize,
+        factory: *const u8,
+        factory_length: usize,
+        digit: u32,
+    ) -> Glyph;
 
     fn s1d06_compile(
         screen: *const u8,
@@ -186,6 +231,67 @@ pub fn draw(
             memory.len(),
         )
     }
+}
+
+pub fn new_ring() -> Ring {
+    unsafe { s1d_new_ring() }
+}
+
+/// A ring of any numbers.
+pub fn ring_of(numbers: &[u16; 1026]) -> Ring {
+    Ring {
+        any: numbers[0],
+        newest: numbers[1],
+        numbers: numbers[2..514].try_into().unwrap(),
+        heights: numbers[514..].try_into().unwrap(),
+    }
+}
+
+/// The newest sample's number.
+pub fn newest(ring: &Ring) -> Option<u16> {
+    (ring.any != 0).then_some(ring.newest)
+}
+
+pub fn take_sample(ring: &mut Ring, sequence: u16, height: u32) -> u32 {
+    unsafe { s1d_take_sample(ring, sequence, height) }
+}
+
+pub fn hour_at(ring: &Ring, age: u32) -> Hour {
+    unsafe { s1d_hour_at(ring, age) }
+}
+
+pub fn wear_strip(
+    ring: &Ring,
+    form: &Form,
+    site: &[u8],
+    factory: &[u8],
+    list: &mut [u8],
+    words: &mut [u16],
+) -> Strip {
+    unsafe {
+        s1d_wear_strip(
+            ring,
+            form.hours,
+            form.depth,
+            form.x,
+            form.y,
+            form.column,
+            form.bar,
+            form.background,
+            site.as_ptr(),
+            site.len(),
+            factory.as_ptr(),
+            factory.len(),
+            list.as_mut_ptr(),
+            list.len(),
+            words.as_mut_ptr(),
+            words.len(),
+        )
+    }
+}
+
+pub fn find_glyph(site: &[u8], factory: &[u8], digit: u32) -> Glyph {
+    unsafe { s1d_find_glyph(site.as_ptr(), site.len(), factory.as_ptr(), factory.len(), digit) }
 }
 
 /// The older chip's functions.

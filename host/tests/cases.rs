@@ -1,10 +1,11 @@
-//! Paper 01's cases S1 to S9 and B1 to B4, cases of paper 02's requests a), c), d) and e), and 001's
+//! Paper 01's cases S1 to S9 and B1 to B4, cases of paper 02's requests a) and c) to f), and 001's
 //! examples 1 to 8, on the reference, and on the library where it is linked.
 
-use host::answers::{Compiled, Drawn, Played, Player, Point, Settings};
+use host::answers::{Compiled, Drawn, Form, Glyph, Hour, Played, Player, Point, Settings, Strip};
+use host::chart::Samples;
 use host::reference::MEMORY;
 use host::serial::BLOCK;
-use host::{older, reference, serial, sheet, unit};
+use host::{older, reference, serial, sheet, unit, wear};
 
 #[derive(Clone, Copy)]
 struct Screen {
@@ -1144,6 +1145,463 @@ fn refused_points() {
                 assert_eq!(read(&screen, p, q, &memory[..size]), refused(number));
                 assert_eq!(read(&screen, p, q, &memory[..size - 1]), refused(18));
             }
+        }
+    }
+}
+
+// ---- Request f) of 02 ----
+
+/// A ring by the reference and by the library, and the samples that it has accepted.
+struct Rings {
+    ours: wear::Ring,
+    theirs: unit::Ring,
+    samples: Samples,
+}
+
+const BLANK: Hour = Hour { number: 0, sampled: 0, height: 0 };
+
+fn sampled(height: u32) -> Hour {
+    Hour { number: 0, sampled: 1, height }
+}
+
+impl Rings {
+    fn new() -> Rings {
+        let (ours, theirs) = (wear::new_ring(), unit::new_ring());
+        Rings { ours, theirs, samples: Samples::default() }
+    }
+
+    /// A ring that has taken some samples.
+    fn of(samples: &[(u16, u32)]) -> Rings {
+        let mut rings = Rings::new();
+        for &(sequence, height) in samples {
+            rings.takes(sequence, height);
+        }
+        rings
+    }
+
+    fn take(&mut self, sequence: u16, height: u32) -> u32 {
+        let number = self.samples.take(sequence, height);
+        assert_eq!(wear::take_sample(&mut self.ours, sequence, height), number);
+        assert_eq!(unit::take_sample(&mut self.theirs, sequence, height), number);
+        number
+    }
+
+    fn takes(&mut self, sequence: u16, height: u32) {
+        assert_eq!(self.take(sequence, height), 0, "{sequence}");
+    }
+
+    /// A sample that is refused, and nothing of the rings changes.
+    fn refuses(&mut self, sequence: u16, height: u32) {
+        let (ours, theirs) = (self.ours.clone(), self.theirs.clone());
+        assert_eq!(self.take(sequence, height), 27, "{sequence}");
+        assert_eq!(ours, self.ours);
+        assert_eq!(theirs, self.theirs);
+    }
+
+    fn hour(&self, age: u32) -> Hour {
+        let hour = wear::hour_at(&self.ours, age);
+        assert_eq!(unit::hour_at(&self.theirs, age), hour);
+        hour
+    }
+
+    /// Every age: those named have a sample, all others are blank.
+    fn tells(&self, heights: &[(u32, u32)]) {
+        let mut hours = vec![BLANK; 512];
+        for &(age, height) in heights {
+            hours[age as usize] = sampled(height);
+        }
+        let told: Vec<Hour> = (0..512).map(|age| self.hour(age)).collect();
+        assert_eq!(told, hours);
+        let heights = self.samples.told().heights;
+        assert_eq!(heights, hours.iter().map(height_of).collect::<Vec<_>>());
+    }
+
+    /// The strip by both, in buffers of so many bytes and words; what lies past it is kept.
+    fn strip_in(
+        &self,
+        form: &Form,
+        [site, factory]: [&[u8]; 2],
+        list_room: usize,
+        words_room: usize,
+    ) -> (Strip, Vec<u8>, Vec<u16>) {
+        let (mut list, mut words) = (vec![0xA5; list_room], vec![0xA5A5; words_room]);
+        let (mut other_list, mut other_words) = (list.clone(), words.clone());
+        let answer = wear::wear_strip(&self.ours, form, site, factory, &mut list, &mut words);
+        let theirs =
+            unit::wear_strip(&self.theirs, form, site, factory, &mut other_list, &mut other_words);
+        assert_eq!(answer, theirs);
+        assert_eq!(list, other_list);
+        assert_eq!(words, other_words);
+        if answer.number != 0 {
+            assert_eq!(answer, Strip { number: answer.number, ..Strip::default() });
+        }
+        let past = list.split_off(answer.list_length as usize);
+        assert!(past.iter().all(|&byte| byte == 0xA5));
+        let past = words.split_off(answer.words_length as usize);
+        assert!(past.iter().all(|&word| word == 0xA5A5));
+        (answer, list, words)
+    }
+
+    /// The strip with room enough, and no site font.
+    fn strip(&self, form: &Form) -> (Strip, Vec<u8>, Vec<u16>) {
+        self.strip_in(form, [&[], &font()], 64 * 32, 5 * 64)
+    }
+
+    fn number(&self, form: &Form) -> u32 {
+        self.strip(form).0.number
+    }
+}
+
+fn height_of(hour: &Hour) -> Option<u32> {
+    (hour.sampled == 1).then_some(hour.height)
+}
+
+/// A font of 80 bytes: line j of digit d is 16 d + j.
+fn font() -> Vec<u8> {
+    (0..10).flat_map(|digit| (0..8).map(move |j| 16 * digit + j)).collect()
+}
+
+const FORM: Form = Form { hours: 1, depth: 8, x: 0, y: 0, column: 1, bar: 1, background: 0 };
+
+#[test]
+fn an_empty_ring() {
+    let mut rings = Rings::new();
+    rings.tells(&[]);
+    for age in [512, 513, 1024, 65_535, 65_536, u32::MAX] {
+        assert_eq!(rings.hour(age), Hour { number: 27, ..Hour::default() });
+    }
+    // Any number may be the first, with a height that is right.
+    for height in [101, 256, 65_536, 65_636, u32::MAX] {
+        rings.refuses(7, height);
+    }
+    rings.tells(&[]);
+    for first in [0, 1, 511, 512, 32_768, 65_535] {
+        for height in [0, 1, 100] {
+            Rings::of(&[(first, height)]).tells(&[(0, height)]);
+        }
+    }
+}
+
+#[test]
+fn steps_of_a_sample() {
+    for first in [0u16, 5, 511, 512, 40_000, 65_023, 65_024, 65_535] {
+        let after = |steps: u16| first.wrapping_add(steps);
+        for steps in [1, 2, 255, 256, 511, 512] {
+            let mut rings = Rings::of(&[(first, 60)]);
+            rings.refuses(after(steps), 101);
+            rings.takes(after(steps), 40);
+            match steps {
+                512 => rings.tells(&[(0, 40)]),
+                _ => rings.tells(&[(0, 40), (steps.into(), 60)]),
+            }
+        }
+        let mut rings = Rings::of(&[(first, 60)]);
+        for steps in [0, 513, 514, 1024, 32_768, 65_023, 65_024, 65_025, 65_535] {
+            rings.refuses(after(steps), 40);
+            rings.refuses(after(steps), 101);
+        }
+        rings.tells(&[(0, 60)]);
+    }
+}
+
+/// 600 samples, hour by hour past 65,535: the last 512 are there.
+#[test]
+fn hour_by_hour() {
+    let mut rings = Rings::new();
+    for i in 0..600u16 {
+        rings.takes(65_300u16.wrapping_add(i), u32::from(i) % 101);
+    }
+    let heights: Vec<(u32, u32)> = (0..512).map(|age| (age, (599 - age) % 101)).collect();
+    rings.tells(&heights);
+}
+
+#[test]
+fn skipped_hours_are_blank() {
+    let mut rings = Rings::new();
+    for i in 0..512 {
+        rings.takes(i, 50);
+    }
+    rings.takes(514, 51);
+    let mut heights: Vec<(u32, u32)> = (3..512).map(|age| (age, 50)).collect();
+    heights.push((0, 51));
+    rings.tells(&heights);
+    // 511 steps leave the hour before the last skipped ones, 512 nothing.
+    rings.takes(1025, 52);
+    rings.tells(&[(0, 52), (511, 51)]);
+    rings.takes(1026, 0);
+    rings.tells(&[(0, 0), (1, 52)]);
+    rings.takes(1538, 100);
+    rings.tells(&[(0, 100)]);
+}
+
+/// Once round by jumps that meet none of the first numbers: none of the first samples comes back.
+#[test]
+fn old_samples_stay_away() {
+    for jump in [2, 3, 64, 255, 256, 257, 511, 512] {
+        let mut rings = Rings::new();
+        // Samples at every number up to 512.
+        for i in 0..=512 {
+            rings.takes(i, 99);
+        }
+        let mut newest = 512u32;
+        while newest < 3 * 65_536 {
+            newest += jump;
+            rings.takes(newest as u16, newest % 99);
+        }
+        let heights: Vec<(u32, u32)> =
+            (0..512).step_by(jump as usize).map(|age| (age, (newest - age) % 99)).collect();
+        rings.tells(&heights);
+    }
+}
+
+/// The bytes of a fill and of a write.
+fn fill(numbers: [u16; 4], colour: u16) -> Vec<u8> {
+    let [x, y, width, height] = numbers;
+    command(0, 0, 0, [x, y, width, height, 0, 0, colour])
+}
+
+fn digit(x: u16, y: u16) -> Vec<u8> {
+    command(2, 0, 0xC, [x, y, 8, 8, 0, 0, 0])
+}
+
+#[test]
+fn commands_of_a_strip() {
+    // Ages 4 to 0: no hour yet, 30, blank, 0, 100.
+    let rings = Rings::of(&[(65_534, 30), (0, 0), (1, 100)]);
+    let form = Form { hours: 5, x: 10, y: 20, column: 7, bar: 9, background: 4, ..FORM };
+    let (answer, list, words) = rings.strip(&form);
+    let want = [
+        fill([10, 20, 7, 100], 4),
+        fill([17, 20, 7, 100], 4),
+        fill([17, 90, 7, 30], 9),
+        fill([24, 20, 7, 100], 4),
+        fill([31, 20, 7, 100], 4),
+        fill([38, 20, 7, 100], 4),
+        fill([38, 20, 7, 100], 9),
+        digit(10, 120),
+    ];
+    assert_eq!(list, want.concat());
+    assert_eq!(answer, Strip { number: 0, list_length: 256, words_length: 32 });
+    // Lines 10h to 17h: one pixel, then the three bits of j; the low byte is the left pixel.
+    for (j, line) in words.chunks(4).enumerate() {
+        let (third, fourth) = ([0x0404, 0x0904][j / 4], [0x0404, 0x0904, 0x0409, 0x0909][j % 4]);
+        assert_eq!(line, [0x0404, 0x0904, third, fourth]);
+    }
+}
+
+/// An empty ring has background alone, and no number.
+#[test]
+fn a_strip_of_an_empty_ring() {
+    let form = Form { hours: 24, x: 3, column: 16, background: 7, ..FORM };
+    let (answer, list, _) = Rings::new().strip(&form);
+    assert_eq!(answer, Strip { number: 0, list_length: 24 * 32, words_length: 0 });
+    let want: Vec<u8> = (0..24).flat_map(|c| fill([3 + 16 * c, 0, 16, 100], 7)).collect();
+    assert_eq!(list, want);
+}
+
+#[test]
+fn numbers_of_a_strip() {
+    for (number, digits) in [
+        (0, &[0][..]),
+        (7, &[7]),
+        (10, &[1, 0]),
+        (99, &[9, 9]),
+        (100, &[1, 0, 0]),
+        (1000, &[1, 0, 0, 0]),
+        (9999, &[9, 9, 9, 9]),
+        (10_000, &[1, 0, 0, 0, 0]),
+        (12_345, &[1, 2, 3, 4, 5]),
+        (65_535, &[6, 5, 5, 3, 5]),
+    ] {
+        let form = Form { depth: 16, x: 5, y: 6, bar: 0xFFFF, background: 0x1234, ..FORM };
+        let (answer, list, words) = Rings::of(&[(number, 0)]).strip(&form);
+        assert_eq!(answer.number, 0);
+        let count = digits.len();
+        assert_eq!((list.len(), words.len()), (32 + 32 * count, 64 * count));
+        for (i, (part, &value)) in list[32..].chunks(32).zip(digits).enumerate() {
+            assert_eq!(part, digit(5 + 8 * i as u16, 106));
+            for (j, line) in words[64 * i..64 * i + 64].chunks(8).enumerate() {
+                let pixels = line.iter().map(|&word| match word {
+                    0xFFFF => 1,
+                    0x1234 => 0,
+                    _ => panic!("{word}"),
+                });
+                let byte = pixels.fold(0, |byte, bit| 2 * byte + bit);
+                assert_eq!(byte, 16 * value + j);
+            }
+        }
+    }
+}
+
+/// A strip on a screen at each rotation: the newest hour on the right, bars on the lowest line, and
+/// the number below, by the point reader.
+#[test]
+fn a_strip_on_the_panel() {
+    let rings = Rings::of(&[(65_534, 1), (0, 100), (1, 40)]);
+    let form = Form { hours: 4, x: 3, y: 2, column: 5, bar: 7, background: 2, ..FORM };
+    let (_, list, words) = rings.strip(&form);
+    // A column's highest line of the bar, from the top; 100 for none.
+    let tops = [99, 100, 0, 60];
+    let ink: Vec<usize> = font()[8..16].iter().map(|&byte| byte.into()).collect();
+    for rotation in 0..4 {
+        let panel = if rotation % 2 == 0 { (32, 112) } else { (112, 32) };
+        let screen = Screen { depth: 8, rotation, panel, ..S1 };
+        for (draw, read) in [(reference::draw as Draw, READ[0]), (unit::draw, READ[1])] {
+            let (mut memory, mut stream) = (vec![0xEE; MEMORY], vec![0; 4096]);
+            let drawn = draw(&screen.record(), &list, &words, &mut stream, &mut memory);
+            assert_eq!(drawn.number, 0);
+            let settings = screen.settings(drawn.values);
+            for v in 0..112 {
+                for u in 0..32 {
+                    let (right, below) = (u - 3, v - 2);
+                    let want = match below {
+                        0..=99 if (0..20).contains(&right) => {
+                            if below >= tops[right as usize / 5] {
+                                7
+                            } else {
+                                2
+                            }
+                        }
+                        100..=107 if (0..8).contains(&right) => {
+                            [2, 7][ink[below as usize - 100] >> (7 - right) & 1]
+                        }
+                        _ => 0xEE,
+                    };
+                    let (w, h) = (i32::from(panel.0), i32::from(panel.1));
+                    let (p, q) = [(u, v), (v, h - 1 - u), (w - 1 - u, h - 1 - v), (w - 1 - v, u)]
+                        [usize::from(rotation)];
+                    let point = read(&settings, p as u32, q as u32, &memory);
+                    assert_eq!((point.number, point.colour), (0, want), "({u}, {v})");
+                }
+            }
+        }
+    }
+}
+
+/// Each ground of refusal, and what is checked before it.
+#[test]
+fn order_of_a_strips_checks() {
+    let rings = Rings::of(&[(12_345, 50)]);
+    let good = Form { hours: 24, column: 16, ..FORM };
+    assert_eq!(rings.number(&good), 0);
+    // All that is wrong; then from the last check on one thing is put right after the other.
+    let bad =
+        Form { hours: 25, depth: 3, x: 65_535, y: 65_535, column: 17, bar: 256, background: 256 };
+    let all = |form: &Form, factory: &[u8], list, words| {
+        rings.strip_in(form, [&[], factory], list, words).0.number
+    };
+    let font = font();
+    for depth in [0, 3, 5, 6, 7, 9, 12, 15, 17, 32, 256, 264, 65_544, u32::MAX] {
+        assert_eq!(all(&Form { depth, ..bad }, &[], 0, 0), 2, "{depth}");
+        assert_eq!(rings.number(&Form { depth, ..good }), 2, "{depth}");
+    }
+    for depth in [1, 2, 4] {
+        assert_eq!(all(&Form { depth, ..bad }, &[], 0, 0), 11);
+        assert_eq!(rings.number(&Form { depth, ..good }), 11);
+    }
+    for (bar, background) in [(256, 0), (0, 256), (65_535, 65_535)] {
+        assert_eq!(all(&Form { depth: 8, bar, background, ..bad }, &[], 0, 0), 12);
+        assert_eq!(rings.number(&Form { bar, background, ..good }), 12);
+        assert_eq!(all(&Form { depth: 16, bar, background, ..bad }, &[], 0, 0), 27);
+        assert_eq!(rings.number(&Form { depth: 16, bar, background, ..good }), 0);
+    }
+    for hours in [0, 25, 26, 255, 256, 257, 65_537, u32::MAX] {
+        assert_eq!(rings.number(&Form { hours, ..good }), 27, "{hours}");
+        assert_eq!(all(&Form { hours, ..good }, &font, 0, 0), 27, "{hours}");
+    }
+    for column in [0, 17, 18, 256, 272, 65_537, u32::MAX] {
+        assert_eq!(rings.number(&Form { column, ..good }), 27, "{column}");
+        assert_eq!(all(&Form { column, ..good }, &font, 0, 0), 27, "{column}");
+    }
+    for length in [0, 1, 72, 79] {
+        assert_eq!(all(&good, &font[..length], 64 * 32, 160), 27, "{length}");
+        assert_eq!(all(&good, &font[..length], 0, 0), 27, "{length}");
+        // A whole site font is none of the factory's, and digits need not be drawn.
+        let (answer, ..) = rings.strip_in(&good, [&font, &font[..length]], 64 * 32, 160);
+        assert_eq!(answer.number, 27);
+        let (answer, ..) = Rings::new().strip_in(&good, [&font, &font[..length]], 64 * 32, 160);
+        assert_eq!(answer.number, 27);
+    }
+    // 24 columns, one bar and five digits; 160 words.
+    let (list, words) = (30 * 32, 160);
+    assert_eq!(all(&good, &font, list, words), 0);
+    for (list, words) in [(list - 1, words), (list, words - 1), (list - 32, 0), (0, words), (0, 0)]
+    {
+        assert_eq!(all(&good, &font, list, words), 17);
+        assert_eq!(all(&Form { y: 65_436, ..good }, &font, list, words), 27);
+    }
+    let longer = [font.clone(), vec![0]].concat();
+    assert_eq!(all(&good, &longer, list, words), 0);
+}
+
+/// Fields past 65,535, of commands that are written alone.
+#[test]
+fn last_places_of_a_strip() {
+    let (empty, five) = (Rings::new(), Rings::of(&[(12_345, 1)]));
+    let number =
+        |rings: &Rings, hours, column, x, y| rings.number(&Form { hours, column, x, y, ..FORM });
+    // The last column, the last digit; a column may go further.
+    assert_eq!(number(&empty, 24, 16, 65_167, 0), 0);
+    assert_eq!(number(&empty, 24, 16, 65_168, 0), 27);
+    assert_eq!(number(&empty, 1, 16, 65_535, 65_535), 0);
+    assert_eq!(number(&five, 24, 16, 65_167, 0), 0);
+    assert_eq!(number(&five, 24, 16, 65_168, 0), 27);
+    assert_eq!(number(&five, 1, 16, 65_503, 0), 0);
+    assert_eq!(number(&five, 1, 16, 65_504, 0), 27);
+    assert_eq!(number(&five, 5, 8, 65_503, 0), 0);
+    assert_eq!(number(&Rings::of(&[(9, 1)]), 1, 16, 65_535, 0), 0);
+    assert_eq!(number(&Rings::of(&[(10, 1)]), 1, 16, 65_527, 0), 0);
+    assert_eq!(number(&Rings::of(&[(10, 1)]), 1, 16, 65_528, 0), 27);
+    // The digits' line.
+    for height in [0, 1, 50, 100] {
+        let rings = Rings::of(&[(9, height)]);
+        assert_eq!(number(&rings, 1, 1, 0, 65_435), 0);
+        assert_eq!(number(&rings, 1, 1, 0, 65_436), 27);
+    }
+}
+
+#[test]
+fn glyphs() {
+    let glyph = |site: usize, factory: usize, digit| {
+        let (site, factory) = (vec![1; site], vec![2; factory]);
+        let answer = wear::find_glyph(&site, &factory, digit);
+        assert_eq!(unit::find_glyph(&site, &factory, digit), answer);
+        answer
+    };
+    let refused = Glyph { number: 27, ..Glyph::default() };
+    for factory in [80, 81, 200] {
+        for digit in 0..10 {
+            let part = |site| Glyph { number: 0, site, at: u64::from(8 * digit), length: 8 };
+            let whole = 8 * digit as usize + 8;
+            for site in 0..100 {
+                assert_eq!(glyph(site, factory, digit), part(u32::from(site >= whole)));
+            }
+        }
+        for digit in [10, 11, 255, 256, 65_536, 1 << 29, u32::MAX] {
+            assert_eq!(glyph(80, factory, digit), refused);
+            assert_eq!(glyph(0, factory, digit), refused);
+        }
+    }
+    for factory in 0..80 {
+        for digit in [0, 9, 10] {
+            assert_eq!(glyph(80, factory, digit), refused);
+        }
+    }
+}
+
+/// A site font that ends inside a glyph: the digits that it has whole are its own.
+#[test]
+fn fonts_of_a_strip() {
+    let rings = Rings::of(&[(10_234, 0)]);
+    let site = [0xFF; 80];
+    let form = Form { depth: 16, ..FORM };
+    for length in 0..=80 {
+        let (answer, _, words) = rings.strip_in(&form, [&site[..length], &font()], 64 * 32, 5 * 64);
+        assert_eq!(answer.number, 0);
+        for (digit, words) in [1, 0, 2, 3, 4].into_iter().zip(words.chunks(64)) {
+            // The first line of the factory's is 16 d, with no right half.
+            let own = words[7] == 1;
+            assert_eq!(own, 8 * digit + 8 <= length);
         }
     }
 }

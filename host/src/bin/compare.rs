@@ -1,27 +1,42 @@
 //! Compares the library with the reference on random inputs, and the reference with the plain sheet
 //! and with pixel-by-pixel playing; the player that is fed in blocks also with the one that is not,
 //! the older chip's bytes with the other chip's values, and a point's colour with the bits of memory
-//! where it is said to stand.
+//! where it is said to stand; rings and strips with what the accepted samples say, drawn strips with
+//! their picture, and the library's rings of any numbers with what they tell themselves.
 //!
 //!     compare [--reference-only] [COUNT [SEED [FIRST]]]
 //!
 //! Inputs are numbered from FIRST (0); each is made from the seed and its number alone, so
 //! `compare 1 SEED NUMBER` repeats one. Ends with status 1 on a difference, or where a refusal
-//! number was never seen, or not by `feed`, `end` and the older chip's functions where they give it,
-//! or where something of `Seen` was not, on either chip.
+//! number was never seen, or not by `feed`, `end`, the older chip's functions and those of the wear
+//! strip where they give it, or where something of `Seen`, on either chip, or of `Worn` was not.
 
 use std::fmt::{Debug, Write};
 use std::process::ExitCode;
 use std::time::Instant;
 
-use host::answers::{Compiled, Played, Player, Point, Settings};
-use host::inputs::{self, Drawing, Rng};
+use host::answers::{Compiled, Glyph, Hour, Played, Player, Point, Settings, Strip};
+use host::chart::{Samples, Told, GROUNDS};
+use host::inputs::{self, Asked, Drawing, Rng};
 use host::reference::MEMORY;
 use host::serial::{self, BLOCK};
+use host::wear::{self, HOURS};
 use host::{literal, older, reference, sheet, unit, LINKED};
 
-const FUNCTIONS: [&str; 8] =
-    ["compile", "play", "point", "draw", "feed", "end", "compile06", "point06"];
+const FUNCTIONS: [&str; 12] = [
+    "compile",
+    "play",
+    "point",
+    "draw",
+    "feed",
+    "end",
+    "compile06",
+    "point06",
+    "sample",
+    "hour",
+    "strip",
+    "glyph",
+];
 const COMPILE: usize = 0;
 const PLAY: usize = 1;
 const POINT: usize = 2;
@@ -30,17 +45,25 @@ const FEED: usize = 4;
 const END: usize = 5;
 const OLDER_COMPILE: usize = 6;
 const OLDER_POINT: usize = 7;
+const SAMPLE: usize = 8;
+const HOUR: usize = 9;
+const STRIP: usize = 10;
+const GLYPH: usize = 11;
 
 /// The highest number of a refusal, and those that there are not.
 const HIGHEST: usize = 32;
-const FREE: std::ops::Range<usize> = 27..32;
+const FREE: std::ops::Range<usize> = 28..32;
 
 /// What some functions must have given; `feed` and `end`, repeated answers among it.
-const GIVEN: [(usize, &[usize]); 4] = [
+const GIVEN: [(usize, &[usize]); 8] = [
     (FEED, &[0, 18, 19, 20, 21, 22, 23, 32]),
     (END, &[0, 19, 20, 21, 22, 23]),
     (OLDER_COMPILE, &[0, 1, 2, 3, 4, 5, 6, 7, 8, 9, 10, 11, 16, 17, 26]),
     (OLDER_POINT, &[0, 1, 2, 3, 4, 5, 18, 21, 24, 25]),
+    (SAMPLE, &[0, 27]),
+    (HOUR, &[0, 27]),
+    (STRIP, &[0, 2, 11, 12, 17, 27]),
+    (GLYPH, &[0, 27]),
 ];
 
 type Compile = fn(&[u8], &[u8], &[u16], &mut [u8]) -> Compiled;
@@ -119,6 +142,81 @@ impl Places {
     }
 }
 
+/// What else must be seen of rings and strips.
+#[derive(Default)]
+struct Worn {
+    /// Steps from the newest that are taken: 1, 511, 512; and refused, the height being right: 0, 513,
+    /// one back. The first sample with a height above 100.
+    taken: [u64; 3],
+    refused: [u64; 3],
+    first: u64,
+    /// Rings that are empty; whose numbers have come round; with a sample of age 511; with a blank hour
+    /// whose number a sample had on an earlier round. For the library's alone: of any numbers.
+    rings: [u64; 4],
+    any: u64,
+    /// Strips refused with 27 for one ground alone, in the order of `GROUNDS`, and for the factory font
+    /// with no digit to draw. A low bar's y is never alone: where there is a bar there are digits below.
+    grounds: [u64; GROUNDS.len()],
+    undrawn: u64,
+    /// Strips refused with 17 for the list alone, the words alone, and for a byte or a word.
+    short: [u64; 4],
+    /// Strips that are made, with no number and with 1 to 5 digits, at depths 8 and 16.
+    digits: [[u64; 6]; 2],
+    /// Each digit, drawn with the factory's glyph; with the site's; and with the factory's where the
+    /// site has it in part.
+    glyphs: [[u64; 3]; 10],
+    /// Pictures by depth, rotation and flag; and columns seen blank, of height 0 and of height 100.
+    pictures: [[[u64; 2]; 4]; 2],
+    columns: [u64; 3],
+}
+
+impl Worn {
+    /// The counts with their names.
+    fn rows(&self) -> Vec<(&'static str, Vec<u64>)> {
+        let mut grounds = self.grounds.to_vec();
+        grounds.remove(5);
+        let mut rows = vec![
+            ("samples 1, 511, 512 steps ahead, taken", self.taken.to_vec()),
+            ("samples 0, 513, 65535 steps ahead, refused", self.refused.to_vec()),
+            ("first samples refused", vec![self.first]),
+            ("rings empty, come round, full, with an old number skipped", self.rings.to_vec()),
+            ("27 for hours, column, factory, column's x, digit's x, digit's y alone", grounds),
+            ("27 for a factory font that is not drawn with", vec![self.undrawn]),
+            ("17 for list, words, a byte, a word", self.short.to_vec()),
+            ("strips at depth 8 by digits from 0", self.digits[0].to_vec()),
+            ("strips at depth 16 by digits from 0", self.digits[1].to_vec()),
+            ("pictures at depth 8 by rotation and flag", self.pictures[0].concat()),
+            ("pictures at depth 16 by rotation and flag", self.pictures[1].concat()),
+            ("columns seen blank, of height 0, of height 100", self.columns.to_vec()),
+        ];
+        for (i, what) in [
+            "digits drawn with the factory's glyph",
+            "digits drawn with the site's",
+            "digits drawn with the factory's, the site having a part",
+        ]
+        .into_iter()
+        .enumerate()
+        {
+            rows.push((what, self.glyphs.map(|digit| digit[i]).to_vec()));
+        }
+        if LINKED {
+            rows.push(("rings of any numbers", vec![self.any]));
+        }
+        rows
+    }
+}
+
+/// A ring by the reference and by the library, and what its accepted samples say.
+struct Rings {
+    given: Vec<(u16, u32)>,
+    ours: wear::Ring,
+    theirs: unit::Ring,
+    samples: Samples,
+}
+
+/// The list and the words of a strip, or its number.
+type Made = Result<(Vec<u8>, Vec<u16>), u32>;
+
 /// A difference, in words and with the input.
 type Checked = Result<(), String>;
 
@@ -134,6 +232,8 @@ struct Bench {
     seen: [[u64; HIGHEST + 1]; FUNCTIONS.len()],
     /// How often the rest was seen of each chip.
     chips: [Seen; 2],
+    /// And of rings and strips.
+    worn: Worn,
 }
 
 /// One call of a player: the block's place in its bytes, and the length of the memory.
@@ -184,6 +284,24 @@ fn drawing_text(drawing: &Drawing) -> String {
         hex_words(&drawing.words),
         drawing.room
     )
+}
+
+fn asked_text(asked: &Asked) -> String {
+    let Asked { form, site, factory, list_room, words_room } = asked;
+    format!(
+        "  {form:?}\n  site: {}\n  factory: {}\n  buffers: {list_room} bytes, {words_room} words",
+        hex(site),
+        hex(factory)
+    )
+}
+
+/// What a strip gives, as the hours that are told say.
+fn made(told: &Told, asked: &Asked) -> Made {
+    let (list, words) = told.strip(&asked.form, &asked.site, &asked.factory)?;
+    if list.len() > asked.list_room || words.len() > asked.words_room {
+        return Err(17);
+    }
+    Ok((list, words))
 }
 
 /// A stream, compiled or foreign, whole or changed.
@@ -257,6 +375,7 @@ impl Bench {
             third: Vec::new(),
             seen: [[0; HIGHEST + 1]; FUNCTIONS.len()],
             chips: Default::default(),
+            worn: Worn::default(),
         }
     }
 
@@ -675,8 +794,313 @@ impl Bench {
         Ok(())
     }
 
+    /// A ring that is given samples from empty on, with what holds of each.
+    fn rings(&mut self, rng: &mut Rng) -> Result<Rings, String> {
+        let (ours, theirs) = (wear::new_ring(), unit::new_ring());
+        let mut rings = Rings { given: Vec::new(), ours, theirs, samples: Samples::default() };
+        let look = rng.pick(&[20, 200, 2000]);
+        for (sequence, height) in inputs::samples(rng) {
+            rings.given.push((sequence, height));
+            let (ours, theirs) = (rings.ours.clone(), rings.theirs.clone());
+            let input = || format!("  samples: {:?}", rings.given);
+            let number = rings.samples.take(sequence, height);
+            same(
+                "sample, as accepted samples say",
+                wear::take_sample(&mut rings.ours, sequence, height),
+                number,
+                input,
+            )?;
+            let other = unit::take_sample(&mut rings.theirs, sequence, height);
+            same("sample", number, other, input)?;
+            if number != 0 {
+                same("reference's ring of a refusal", &ours, &rings.ours, input)?;
+                same("ring of a refusal", &theirs, &rings.theirs, input)?;
+            }
+            self.seen[SAMPLE][number as usize] += 1;
+            let worn = &mut self.worn;
+            match wear::newest(&ours).map(|newest| sequence.wrapping_sub(newest)) {
+                None => worn.first += u64::from(number != 0),
+                Some(steps) => {
+                    let (row, at) = match number {
+                        0 => (&mut worn.taken, [1, 511, 512]),
+                        _ => (&mut worn.refused, [0, 513, 65_535]),
+                    };
+                    if let (Some(i), 0..=100) = (at.iter().position(|&at| at == steps), height) {
+                        row[i] += 1;
+                    }
+                }
+            }
+            if rng.one_in(look) {
+                self.hours(rng, &rings)?;
+            }
+        }
+        self.hours(rng, &rings)?;
+        Ok(rings)
+    }
+
+    /// Every hour of a ring, and ages that are refused.
+    fn hours(&mut self, rng: &mut Rng, rings: &Rings) -> Checked {
+        let told = rings.samples.told();
+        let input = |age: u32| format!("  age {age}\n  samples: {:?}", rings.given);
+        let newest = wear::newest(&rings.ours);
+        same("the newest number", newest, told.newest, || input(0))?;
+        let far = inputs::far_ages(rng);
+        for age in (0..HOURS as u32).chain(far) {
+            let answer = wear::hour_at(&rings.ours, age);
+            let theirs = unit::hour_at(&rings.theirs, age);
+            same("hour", answer, theirs, || input(age))?;
+            let want = match told.heights.get(age as usize) {
+                None => Hour { number: 27, ..Hour::default() },
+                Some(None) => Hour::default(),
+                Some(&Some(height)) => Hour { number: 0, sampled: 1, height },
+            };
+            same("hour, as accepted samples say", answer, want, || input(age))?;
+            self.seen[HOUR][answer.number as usize] += 1;
+        }
+        let [empty, round, full, again] = &mut self.worn.rings;
+        *empty += u64::from(told.newest.is_none());
+        *round += u64::from(rings.samples.rounds() > 0);
+        *full += u64::from(told.heights[HOURS - 1].is_some());
+        *again += u64::from(rings.samples.skipped_again() > 0);
+        Ok(())
+    }
+
+    /// A ring alone.
+    fn ring(&mut self, rng: &mut Rng) -> Checked {
+        self.rings(rng).map(|_| ())
+    }
+
+    /// A strip, drawn on a screen or not.
+    fn strip(&mut self, rng: &mut Rng) -> Checked {
+        let rings = self.rings(rng)?;
+        let told = rings.samples.told();
+        let (asked, screen) = inputs::asked(rng, &told);
+        let input = || format!("{}\n  samples: {:?}", asked_text(&asked), rings.given);
+        let ours = |list: &mut [u8], words: &mut [u16]| {
+            wear::wear_strip(&rings.ours, &asked.form, &asked.site, &asked.factory, list, words)
+        };
+        let theirs = |list: &mut [u8], words: &mut [u16]| {
+            unit::wear_strip(&rings.theirs, &asked.form, &asked.site, &asked.factory, list, words)
+        };
+        let made = made(&told, &asked);
+        self.strip_by("strip of the reference", &asked, &made, ours, input)?;
+        self.strip_by("strip", &asked, &made, theirs, input)?;
+        self.count_strip(&told, &asked, &made);
+        match (made, screen) {
+            (Ok((list, words)), Some(screen)) => {
+                let room = 48 + 72 * list.len() / 32 + 8 * words.len();
+                let drawing = Drawing { screen, list, words, room };
+                self.picture(rng, &told, &asked, &drawing, input)
+            }
+            _ => Ok(()),
+        }
+    }
+
+    /// A strip by one side, against what is to be made: the answer, and every byte and word of the
+    /// buffers.
+    fn strip_by(
+        &self,
+        what: &str,
+        asked: &Asked,
+        made: &Made,
+        strip: impl Fn(&mut [u8], &mut [u16]) -> Strip,
+        input: impl Fn() -> String,
+    ) -> Checked {
+        let &Asked { list_room, words_room, .. } = asked;
+        let mut list = self.pool[..list_room].to_vec();
+        let half = |bytes: &[u8]| u16::from_le_bytes([bytes[0], bytes[1]]);
+        let mut words: Vec<u16> = self.pool.chunks(2).take(words_room).map(half).collect();
+        let (mut want_list, mut want_words) = (list.clone(), words.clone());
+        let want = match made {
+            Ok((list, words)) => {
+                want_list[..list.len()].copy_from_slice(list);
+                want_words[..words.len()].copy_from_slice(words);
+                let (list_length, words_length) = (list.len() as u64, words.len() as u64);
+                Strip { number: 0, list_length, words_length }
+            }
+            Err(number) => Strip { number: *number, ..Strip::default() },
+        };
+        same(what, want, strip(&mut list, &mut words), &input)?;
+        same_bytes(&format!("list of {what}"), &want_list, &list, &input)?;
+        let differs = want_words.iter().zip(&words).position(|(a, b)| a != b);
+        same(&format!("words of {what}: first that differs"), None, differs, &input)
+    }
+
+    fn count_strip(&mut self, told: &Told, asked: &Asked, made: &Made) {
+        let Asked { form, site, factory, list_room, words_room } = asked;
+        let worn = &mut self.worn;
+        let digits = told.digits();
+        self.seen[STRIP][made.as_ref().map_or_else(|&number| number as usize, |_| 0)] += 1;
+        match made {
+            Ok(_) => {
+                worn.digits[usize::from(form.depth == 16)][digits.len()] += 1;
+                for digit in digits {
+                    let held = site.len().saturating_sub(8 * digit);
+                    let which = if held >= 8 { 1 } else { 2 * usize::from(held > 0) };
+                    worn.glyphs[digit][which] += 1;
+                }
+            }
+            Err(27) => {
+                let grounds = told.grounds(form, factory);
+                if grounds.iter().filter(|&&ground| ground).count() == 1 {
+                    let i = grounds.iter().position(|&ground| ground).unwrap();
+                    worn.grounds[i] += 1;
+                    worn.undrawn += u64::from(i == 2 && digits.is_empty());
+                }
+            }
+            Err(17) => {
+                let (list, words) = told.strip(form, site, factory).unwrap();
+                let short = (
+                    list.len().saturating_sub(*list_room),
+                    words.len().saturating_sub(*words_room),
+                );
+                let [by_list, by_words, by_byte, by_word] = &mut worn.short;
+                *by_list += u64::from(short.1 == 0);
+                *by_words += u64::from(short.0 == 0);
+                *by_byte += u64::from(short == (1, 0));
+                *by_word += u64::from(short == (0, 1));
+            }
+            Err(_) => {}
+        }
+    }
+
+    /// A strip that is drawn: compiled, played and read, and its picture, pixel by pixel.
+    fn picture(
+        &mut self,
+        rng: &mut Rng,
+        told: &Told,
+        asked: &Asked,
+        drawing: &Drawing,
+        input: impl Fn() -> String,
+    ) -> Checked {
+        let Drawing { screen, list, words, .. } = drawing;
+        let input = || format!("{}\n{}", input(), drawing_text(drawing));
+        let answer = self.compile_on(&NEWER, drawing)?;
+        same("a strip's list compiles", answer.number, 0, input)?;
+        let at = self.prepare_memory(rng, MEMORY);
+        let number = self.play(at)?;
+        same("a strip's stream plays", number, 0, input)?;
+        self.third.clear();
+        self.third.extend_from_slice(&self.pool[at..at + MEMORY]);
+        sheet::draw(screen, list, words, &mut self.third);
+        same_bytes("a strip on the sheet", &self.memory[0], &self.third, input)?;
+        let settings = settings(answer, screen, record_values(&self.stream[0]));
+        self.against_sheet(rng, &NEWER, drawing, settings)?;
+
+        let Asked { form, site, factory, .. } = asked;
+        for (u, v) in inputs::pixels(rng, told, form, screen) {
+            let (p, q) = sheet::panel_point(screen, u, v);
+            let input = || format!("  pixel ({u}, {v}), panel point ({p}, {q})\n{}", input());
+            let point = self.read(&NEWER, &settings, (p as u32, q as u32), input)?;
+            let (which, x, y) = sheet::seen(screen, p, q);
+            if which == 0 {
+                same("the pixel of a panel point", (u, v), (x, y), input)?;
+                let before = sheet::shows(screen, &self.pool[at..at + MEMORY], p, q);
+                let want = told.pixel(form, site, factory, u, v).unwrap_or(before);
+                same("a strip's pixel", want, point.colour, input)?;
+            }
+        }
+        let deep = usize::from(form.depth == 16);
+        self.worn.pictures[deep][usize::from(screen[1])][usize::from(screen[2])] += 1;
+        for age in 0..form.hours as usize {
+            let [blank, zero, full] = &mut self.worn.columns;
+            match told.heights[age] {
+                None => *blank += 1,
+                Some(0) => *zero += 1,
+                Some(100) => *full += 1,
+                _ => {}
+            }
+        }
+        Ok(())
+    }
+
+    /// A few glyphs.
+    fn glyphs(&mut self, rng: &mut Rng) -> Checked {
+        for _ in 0..16 {
+            let ([site, factory], digit) = (inputs::fonts(rng), inputs::digit(rng));
+            let answer = wear::find_glyph(&site, &factory, digit);
+            let theirs = unit::find_glyph(&site, &factory, digit);
+            let input =
+                || format!("  site: {}\n  factory: {}\n  digit {digit}", hex(&site), hex(&factory));
+            same("glyph", answer, theirs, input)?;
+            let (at, length) = (8 * u64::from(digit), 8);
+            let want = match (factory.len(), site.len() as u64) {
+                (0..=79, _) => Glyph { number: 27, ..Glyph::default() },
+                _ if digit > 9 => Glyph { number: 27, ..Glyph::default() },
+                (_, held) => Glyph { number: 0, site: (held >= at + 8).into(), at, length },
+            };
+            same("glyph, as the request says", answer, want, input)?;
+            self.seen[GLYPH][answer.number as usize] += 1;
+        }
+        Ok(())
+    }
+
+    /// One of the library's rings that holds any numbers: what it tells before and after samples, that
+    /// refused ones change nothing, and that a strip shows what it tells.
+    fn any_ring(&mut self, rng: &mut Rng) -> Checked {
+        let numbers = inputs::ring(rng);
+        let mut ring = unit::ring_of(&numbers);
+        let mut given = Vec::new();
+        let mut told = self.told_by(rng, &ring, || format!("  ring: {}", hex_words(&numbers)))?;
+        for _ in 0..rng.between(1, 8) {
+            let (sequence, height) = inputs::sample(rng, told.newest);
+            given.push((sequence, height));
+            let input = || format!("  samples: {given:?}\n  ring: {}", hex_words(&numbers));
+            let before = ring.clone();
+            // The first sample leaves no other hour.
+            let steps = told.newest.map_or(HOURS, |newest| sequence.wrapping_sub(newest).into());
+            let good = (1..=HOURS).contains(&steps) && height <= 100;
+            let number = unit::take_sample(&mut ring, sequence, height);
+            same("sample for a ring of any numbers", if good { 0 } else { 27 }, number, input)?;
+            if good {
+                let mut heights = vec![None; steps];
+                heights[0] = Some(height);
+                heights.extend(&told.heights[..HOURS - steps]);
+                told = Told { newest: Some(sequence), heights };
+            } else {
+                same("ring of a refusal", &before, &ring, input)?;
+            }
+            same("told by a ring of any numbers", &told, &self.told_by(rng, &ring, input)?, input)?;
+        }
+        let input = || format!("  samples: {given:?}\n  ring: {}", hex_words(&numbers));
+        let (asked, _) = inputs::asked(rng, &told);
+        let strip = |list: &mut [u8], words: &mut [u16]| {
+            unit::wear_strip(&ring, &asked.form, &asked.site, &asked.factory, list, words)
+        };
+        let input = || format!("{}\n{}", asked_text(&asked), input());
+        let made = made(&told, &asked);
+        self.strip_by("strip of a ring of any numbers", &asked, &made, strip, input)?;
+        self.worn.any += 1;
+        Ok(())
+    }
+
+    /// What one of the library's rings tells.
+    fn told_by(
+        &self,
+        rng: &mut Rng,
+        ring: &unit::Ring,
+        input: impl Fn() -> String,
+    ) -> Result<Told, String> {
+        for age in inputs::far_ages(rng) {
+            let want = Hour { number: 27, ..Hour::default() };
+            same("an hour that is refused", want, unit::hour_at(ring, age), &input)?;
+        }
+        let mut heights = Vec::new();
+        for age in 0..HOURS as u32 {
+            let hour = unit::hour_at(ring, age);
+            let blank = Hour::default();
+            let want = match hour {
+                Hour { sampled: 1, height: 0..=100, .. } => Hour { number: 0, ..hour },
+                _ => blank,
+            };
+            same(&format!("hour of age {age}"), want, hour, &input)?;
+            heights.push((hour != blank).then_some(hour.height));
+        }
+        Ok(Told { newest: unit::newest(ring), heights })
+    }
+
     fn input(&mut self, rng: &mut Rng) -> Checked {
-        match rng.below(18) {
+        match rng.below(24) {
             0..=3 => self.compile(rng),
             4 => self.draw(rng),
             5..=7 => self.stream(rng),
@@ -684,7 +1108,11 @@ impl Bench {
             11 => self.points(rng, &NEWER),
             12..=15 => self.older(rng),
             16 => self.points(rng, &OLDER),
-            _ => self.values(rng),
+            17 => self.values(rng),
+            18 => self.ring(rng),
+            19..=21 => self.strip(rng),
+            22 => self.glyphs(rng),
+            _ => self.any_ring(rng),
         }
     }
 }
@@ -754,6 +1182,11 @@ fn main() -> ExitCode {
             println!("    at depth 8 in a byte of odd address {odd}");
             missed |= odd == 0 || bits.iter().any(|bits| bits.contains(&0));
         }
+    }
+    println!("Rings and strips:");
+    for (what, counts) in bench.worn.rows() {
+        println!("  {what} {counts:?}");
+        missed |= counts.contains(&0);
     }
     if missed {
         println!("\nnot all seen; numbers {unseen:?}");

@@ -9,10 +9,11 @@
 use std::hint::black_box;
 use std::time::Instant;
 
-use host::answers::{Played, Player, Point, Settings};
+use host::answers::{Form, Played, Player, Point, Settings};
 use host::inputs::Rng;
 use host::reference::MEMORY;
 use host::serial::{self, BLOCK};
+use host::wear::{self, HOURS};
 use host::{reference, unit, LINKED};
 
 /// memset or memmove on a memory.
@@ -24,6 +25,9 @@ enum Of {
     Bytes,
     Points,
     Commands,
+    Samples,
+    Hours,
+    Strips,
 }
 
 /// Seconds of a call: the best of the rounds, for each function in turn.
@@ -54,6 +58,9 @@ fn speed(of: Of, amount: usize, seconds: f64) -> String {
         Of::Bytes => format!("{:.2} GB/s", per_second / 1e9),
         Of::Points => format!("{:.0} M points/s", per_second / 1e6),
         Of::Commands => format!("{:.1} M commands/s", per_second / 1e6),
+        Of::Samples => format!("{:.1} M samples/s", per_second / 1e6),
+        Of::Hours => format!("{:.0} M hours/s", per_second / 1e6),
+        Of::Strips => format!("{:.2} M strips/s", per_second / 1e6),
     }
 }
 
@@ -101,6 +108,15 @@ fn fed(mut player: Player, feed: Feed, end: End, stream: &[u8], memory: &mut [u8
         black_box(feed(&mut player, block, memory));
     }
     end(&mut player)
+}
+
+/// Gives a ring 1,024 samples, so many steps apart, on from a number; gives the last one's.
+fn taken<R>(take: fn(&mut R, u16, u32) -> u32, ring: &mut R, mut sequence: u16, steps: u16) -> u16 {
+    for i in 0..1024 {
+        sequence = sequence.wrapping_add(steps);
+        assert_eq!(take(ring, sequence, i % 64), 0);
+    }
+    sequence
 }
 
 struct Timing {
@@ -230,6 +246,68 @@ impl Timing {
         }
         row(what, Of::Points, (width * height) as usize, None, ours, theirs);
     }
+
+    /// Takes samples, so many steps apart, by a call each.
+    fn samples(&mut self, what: &str, steps: u16) {
+        let (mut ring, mut other) = (wear::new_ring(), unit::new_ring());
+        let (mut at, mut other_at) = (0, 0);
+        let [ours, theirs] = best(
+            self.rounds,
+            &mut [
+                &mut || at = taken(wear::take_sample, black_box(&mut ring), at, steps),
+                &mut || {
+                    other_at = taken(unit::take_sample, black_box(&mut other), other_at, steps);
+                },
+            ],
+        );
+        row(what, Of::Samples, 1024, None, ours, theirs);
+    }
+
+    /// Asks for each hour of a ring by a call.
+    fn hours(&mut self, what: &str, ring: &wear::Ring, other: &unit::Ring) {
+        let mut sums = [0; 2];
+        let [sum, other_sum] = &mut sums;
+        let [ours, theirs] = best(
+            self.rounds,
+            &mut [
+                &mut || {
+                    let hour = |age: u32| wear::hour_at(black_box(ring), age);
+                    *sum = (0..HOURS as u32).map(|age| hour(age).height).sum();
+                },
+                &mut || {
+                    let hour = |age: u32| unit::hour_at(black_box(other), age);
+                    *other_sum = (0..HOURS as u32).map(|age| hour(age).height).sum();
+                },
+            ],
+        );
+        assert_eq!(sums[0], sums[1]);
+        row(what, Of::Hours, HOURS, None, ours, theirs);
+    }
+
+    fn strip(&mut self, what: &str, form: &Form, ring: &wear::Ring, other: &unit::Ring) {
+        let font: Vec<u8> = (0..80).map(|_| self.rng.any() as u8).collect();
+        // Half of the digits are the site's.
+        let site = &font[..40];
+        let (mut list, mut words) = (vec![0; 64 * 32], vec![0; 5 * 64]);
+        let (mut other_list, mut other_words) = (list.clone(), words.clone());
+        let answer = wear::wear_strip(ring, form, site, &font, &mut list, &mut words);
+        assert_eq!((answer.number, answer.list_length), (0, 53 * 32));
+        let [ours, theirs] = best(
+            self.rounds,
+            &mut [
+                &mut || {
+                    let form = black_box(form);
+                    black_box(wear::wear_strip(ring, form, site, &font, &mut list, &mut words));
+                },
+                &mut || {
+                    let (form, list, words) = (black_box(form), &mut other_list, &mut other_words);
+                    black_box(unit::wear_strip(other, form, site, &font, list, words));
+                },
+            ],
+        );
+        assert_eq!((list, words), (other_list, other_words));
+        row(what, Of::Strips, 1, None, ours, theirs);
+    }
 }
 
 fn main() {
@@ -338,4 +416,20 @@ fn main() {
         ..settings
     };
     timing.panel("read 1,024 × 1,024 points, 90 degrees, window", &turned);
+
+    timing.samples("take a sample, one step", 1);
+    timing.samples("take a sample, 512 steps", 512);
+    // Each of the last hours has a bar, and the number five digits.
+    let (mut ring, mut other) = (wear::new_ring(), unit::new_ring());
+    for (i, sequence) in (0..).zip(12_000..12_600) {
+        let height = 1 + 7 * i % 100;
+        wear::take_sample(&mut ring, sequence, height);
+        unit::take_sample(&mut other, sequence, height);
+    }
+    timing.hours("tell an hour", &ring, &other);
+    for depth in [8, 16] {
+        let form = Form { hours: 24, depth, x: 8, y: 8, column: 12, bar: 200, background: 3 };
+        let what = format!("wear strip of 24 hours, depth {depth}");
+        timing.strip(&what, &form, &ring, &other);
+    }
 }
