@@ -1,7 +1,7 @@
 #!/usr/bin/env python3
 """Writes the example files beside it: a wear chart of 24 hourly columns, upright and turned, in grey and in colour; one of 48
-columns, and screen records that show the last 24 of them; a screen of the older units; and damaged ones. The same list and words
-serve every rotation; only the screen record differs."""
+columns, and screen records that show the last 24 of them; hourly samples for the program `strip`; a screen of the older units; and
+damaged ones. The same list and words serve every rotation; only the screen record differs."""
 import struct
 from pathlib import Path
 
@@ -33,8 +33,8 @@ DIGITS = {'0': '01110 10001 10011 10101 11001 10001 01110', '1': '00100 01100 00
 MARKER = ['11111', '01110', '00100']
 
 
-def record(depth, rotation, panel, bases, place, window, line=0):
-    return struct.pack('<BBBBHHIIHHHHHH4x', depth, rotation, 1, 0, *panel, *bases, *place, *window, line, 0)
+def record(depth, rotation, panel, bases, place, window, line=0, flag=1):
+    return struct.pack('<BBBBHHIIHHHHHH4x', depth, rotation, flag, 0, *panel, *bases, *place, *window, line, 0)
 
 
 def screen(depth, rotation, width, height, place=PLACE, whole=WIDTH, first=0, line=0):
@@ -119,6 +119,19 @@ part = screen(16, 0, WIDTH, HEIGHT, **half)
 write('part.screen', part)
 write('part-90.screen', screen(16, 1, HEIGHT, WIDTH, **half))
 write('older.screen', record(4, 1, (320, 240), (0, 0x9600), (64, 80), (120, 160)))   # 001's example 6, for the S1D13706
+
+# 26 hours of samples: five hours without one, the numbers coming round past 65,535; and four lines that are left out
+STRIP = 208, 128
+HOURLY = {65520: 20, 65521: 35, 65522: 70, 65523: 85, 65524: 100, 65525: 92, 65526: 64, 65527: 40, 65533: 30, 65534: 55, 65535: 78,
+          0: 90, 1: 96, 2: 100, 3: 88, 4: 71, 5: 0, 6: 12, 7: 47, 8: 66, 9: 83}
+lines = [f'{n} {height}' for n, height in HOURLY.items()]
+lines[4:4] = ['65523 10']                                          # the same hour again: refused
+lines[12:12] = ['0 101']                                           # a height above 100: refused
+lines[15:15] = ['65000 50']                                        # an hour long past: refused
+lines += ['70000 50']                                              # no sequence number of 16 bits: no sample
+write('wear.samples', ''.join(line + '\n' for line in lines).encode())
+write('strip.screen', record(16, 0, STRIP, (0, 0), (0, 0), (0, 0), flag=0))
+write('strip-90.screen', record(16, 1, STRIP[::-1], (0, 0), (0, 0), (0, 0), flag=0))
 
 write('damaged.screen', screen(8, 0, WIDTH + 4, HEIGHT))           # a panel width that is no multiple of 8: refused 4
 at = 7 * 32 + 10                                                   # command 7, the first bar: its height
