@@ -7,19 +7,19 @@ use mathlib.Core.Logic.{_⊎_, inl, inr}
 use native.Mathlib.Nat.{mul-le-mul}
 use native.Mathlib.Omega.{arith}
 use lib.ListN.{length, take, drop, length-append}
-use lib.Seq.{sets, take-at, drop-append-add}
+use lib.Seq.{sets, length-sets, take-at, drop-append-add}
 use lib.Dec.{leb, ltb, eqb}
-use borrow.Author.Tests.{leb-true, ltb-false, eqb-true, not-false, eq-eqb, ne-eqb, lt-ltb, le-ltb}
+use borrow.Author.Tests.{leb-true, ltb-false, eqb-true, not-false, eq-eqb, ne-eqb, lt-ltb, le-ltb, lt-leb, le-leb}
 use Rattle.record.specs.Lists.{partsFrom, partsOf}
-use Rattle.record.specs.Checks.{firstOf, AllPass, Numbered}
-use Rattle.record.proofs.Checks.{first-part, second-part, none}
+use Rattle.record.specs.Checks.{row, firstOf, AllPass, Numbered}
+use Rattle.record.proofs.Checks.{first-part, second-part, none, row-fails, row-passes, rows-end}
 use Rattle.record.proofs.Choice.{and-left, and-right, or-elim, both-ways}
 use Rattle.record.proofs.Stores.{sets-append, sets-over}
 use Rattle.pixel.specs.Depth.{isDepth}
 use Rattle.command.specs.Command.{commandOf, commandBytes, lineWords}
 use Rattle.command.specs.declared.Command.{Command}
 use Rattle.command.proofs.Bytes.{Storable, command-back}
-use Rattle.wear.specs.Strip.{Strip, stripWith, column, columns, writes, stripCommands, listBytes, stripList, stripWords, allInReach, askRows, stripRows, Stripping, stripping, listAfter, wordsAfter, strippingOf, answerOf}
+use Rattle.wear.specs.Strip.{Strip, stripWith, column, columns, writes, stripCommands, listBytes, stripList, digitWords, stripWords, allInReach, askRows, stripRows, Stripping, stripping, listAfter, wordsAfter, strippingOf, answerOf}
 use Rattle.wear.specs.Limits.{Checked, commandCount}
 use Rattle.wear.specs.declared.Ask.{Ask}
 use Rattle.wear.specs.declared.StripAnswer.{StripAnswer}
@@ -101,6 +101,43 @@ reach-append (c ∷ xs) ys =
 asked-numbered : (a : Ask) (n : ℕ) → Numbered (askRows a n)
 unfolding Numbered askRows
 asked-numbered a n = (omega arith, (omega arith, (omega arith, (omega arith, (omega arith, (omega arith, tt))))))
+
+-- by the check that fails
+module _ (a : Ask) (factory : ℕ) where
+  pub fault-2 : not (isDepth (a .depth)) ≡ true → 2 ≡ firstOf (askRows a factory)
+  unfolding askRows
+  fault-2 e = row-fails _ e
+
+  module _ (d : not (isDepth (a .depth)) ≡ false) where
+    pub fault-11 : a .depth < 8 → 11 ≡ firstOf (askRows a factory)
+    unfolding askRows
+    fault-11 e = row-passes 2 _ d (row-fails _ (lt-ltb (a .depth) 8 e))
+
+    module _ (n : 8 ≤ a .depth) where
+      pub fault-12 : (eqb (a .depth) 8 && (ltb 255 (a .bar) || ltb 255 (a .background))) ≡ true → 12 ≡ firstOf (askRows a factory)
+      unfolding askRows
+      fault-12 e = row-passes 2 _ d (row-passes 11 _ (le-ltb (a .depth) 8 n) (row-fails _ e))
+
+      module _ (c : (eqb (a .depth) 8 && (ltb 255 (a .bar) || ltb 255 (a .background))) ≡ false) where
+        pub fault-hours : not (leb 1 (a .hours) && leb (a .hours) 24) ≡ true → 27 ≡ firstOf (askRows a factory)
+        unfolding askRows
+        fault-hours e = row-passes 2 _ d (row-passes 11 _ (le-ltb (a .depth) 8 n) (row-passes 12 _ c (row-fails _ e)))
+
+        module _ (h : not (leb 1 (a .hours) && leb (a .hours) 24) ≡ false) where
+          pub fault-column : not (leb 1 (a .column) && leb (a .column) 16) ≡ true → 27 ≡ firstOf (askRows a factory)
+          unfolding askRows
+          fault-column e = row-passes 2 _ d (row-passes 11 _ (le-ltb (a .depth) 8 n) (row-passes 12 _ c (row-passes 27 _ h (row-fails _ e))))
+
+          module _ (w : not (leb 1 (a .column) && leb (a .column) 16) ≡ false) where
+            by-font : (x : ℕ) → x ≡ firstOf (row 27 (not (leb 80 factory)) ∷ []) → x ≡ firstOf (askRows a factory)
+            unfolding askRows
+            by-font x e = row-passes 2 _ d (row-passes 11 _ (le-ltb (a .depth) 8 n) (row-passes 12 _ c (row-passes 27 _ h (row-passes 27 _ w e))))
+
+            pub fault-font : factory < 80 → 27 ≡ firstOf (askRows a factory)
+            fault-font e = by-font 27 (row-fails [] (ap not (lt-leb 80 factory e)))
+
+            pub fault-none : 80 ≤ factory → 0 ≡ firstOf (askRows a factory)
+            fault-none e = by-font 0 (row-passes 27 [] (ap not (le-leb 80 factory e)) rows-end)
 
 -- what they leave known
 eight-or-sixteen : (d : ℕ) → isDepth d ≡ true → 8 ≤ d → (d ≡ 8) ⊎ (d ≡ 16)
@@ -236,6 +273,13 @@ count-most (h ∷ hs) = omega (arith, count-most hs, both-ways (λ (n : ℕ). n 
 pub words-most : (n depth w : ℕ) → n ≤ 5 → w ≡ 8 * lineWords depth 8 → n * w ≤ 320
 unfolding lineWords
 words-most n depth w h e = mul-le-mul {n₂ = 5} {m₂ = 64} h (omega (arith, e, both-ways (λ (k : ℕ). k ≤ 8) (eqb depth 8) 4 8 (λ q. omega arith) (λ q. omega arith)))
+
+pub enough-words : (a : Ask) (site factory digits : List ℕ) (w room : ℕ) → w ≡ 8 * lineWords (a .depth) 8 → length digits * w ≤ room → length (digitWords a site factory digits) ≤ room
+enough-words a site factory digits w room e h = rw (digit-words-count a site factory digits, ← e) h
+
+-- a buffer keeps its length
+pub stored-length : (old new : List ℕ) (at : ℕ) (b : List ℕ) → new ≡ sets old at b → length new ≡ length old
+stored-length old new at b e = ap (λ (l : List ℕ). length l) e ∙ length-sets old at b
 
 -- ---- the strip of heights and digits, for an ask without a fault
 module _ (a : Ask) (heights digits site factory : List ℕ) where
