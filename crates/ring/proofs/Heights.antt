@@ -19,17 +19,20 @@ pub slot-low : (any newest number held age : ℕ) → slotHour any newest number
 unfolding slotHour
 slot-low any newest number held age =
     both-ways Low (not (eqb any 0) && (eqb (stepsTo number newest) age && (leb 1 held && leb held 101))) (sampleOf (held - 1)) blank
-      (λ e. omega (arith, leb-true held 101
-        (and-right (leb 1 held) _ (and-right (eqb (stepsTo number newest) age) _ (and-right (not (eqb any 0)) _ e)))))
-      (λ e. omega arith)
+    (λ e. omega (
+      arith,
+      leb-true held 101
+          (and-right (leb 1 held) _ (and-right (eqb (stepsTo number newest) age) _ (and-right (not (eqb any 0)) _ e))),
+    ))
+    (λ e. omega arith)
 
 pub hour-low : (r : Ring) (age : ℕ) → hourIn r age .height ≤ 100
 unfolding hourIn
 hour-low r age =
     let k = slotOf (r .newest) age in
     both-ways Low (leb age 511) (slotHour (r .any) (r .newest) (getD (r .numbers) k 0) (getD (r .heights) k 0) age) (notTold 27)
-      (λ e. slot-low (r .any) (r .newest) (getD (r .numbers) k 0) (getD (r .heights) k 0) age)
-      (λ e. omega arith)
+    (λ e. slot-low (r .any) (r .newest) (getD (r .numbers) k 0) (getD (r .heights) k 0) age)
+    (λ e. omega arith)
 
 pub heights-count : (r : Ring) (n : ℕ) → length (heightsOf r n) ≡ n
 unfolding heightsOf

@@ -1,3 +1,5 @@
 pub mod Heights
 pub mod Told
 pub mod Stored
+pub mod Ages
+pub mod Tells

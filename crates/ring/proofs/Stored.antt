@@ -4,11 +4,13 @@ use native.Mathlib.Nat.{zero-add, suc-add}
 use native.Mathlib.Numerals.{add-one}
 use native.Mathlib.Omega.{arith}
 use mathlib.Core.Path.{_≡_, refl, sym, ap, subst, _∙_}
-use mathlib.Core.Bool.{Bool, true, false, cond}
-use mathlib.Core.List.{List, [], _∷_, _++_, append-assoc, append-nil}
+use mathlib.Core.Bool.{Bool, true, false, _&&_, _||_, cond}
+use lib.Dec.{leb, eqb}
+use borrow.Author.Tests.{leb-true}
+use mathlib.Core.List.{List, [], _∷_, _++_, map, append-assoc, append-nil}
 use lib.ListN.{length, getD, set, take, drop, length-append, length-take, length-drop, length-set, take-append-drop, drop-of-length-le}
 use lib.Seq.{take-suc, take-suc-set, take-all, set-append-left, drop-drop, getD-drop}
-use Rattle.record.proofs.Choice.{yes, no}
+use Rattle.record.proofs.Choice.{and-left, and-right}
 use Rattle.ring.specs.Samples.{stepsTo}
 use Rattle.ring.specs.Kept.{slotOf, takes, hoursOn, blanked, withSample, taking, hourIn, heightsOf, ringIn, cellsOf}
 use Rattle.ring.specs.declared.Ring.{Ring}
@@ -27,6 +29,14 @@ pub length-blanked : (from : ℕ) (numbers : List ℕ) (n k : ℕ) → length (b
 unfolding blanked
 length-blanked from numbers n zero = refl
 length-blanked from numbers n (suc k) = length-set (blanked from numbers n k) (from + slotOf n (suc k)) 0 ∙ length-blanked from numbers n k
+
+-- the hours made blank one after the other
+pub blank-turn : (from n k at : ℕ) (old cells : List ℕ) → cells ≡ blanked from old n k → at ≡ slotOf n (k + 1)
+    → set cells (from + at) 0 ≡ blanked from old n (k + 1)
+blank-turn from n k at old cells e a =
+    ap (λ (l : List ℕ). set l (from + at) 0) e
+    ∙ ap (λ (i : ℕ). set (blanked from old n k) (from + i) 0) a
+    ∙ sym (blanked-more from old n k)
 
 -- a store after a seam
 pub set-after : (p q : List ℕ) (i v : ℕ) → set (p ++ q) (length p + i) v ≡ p ++ set q i v
@@ -53,12 +63,12 @@ stores a b ns hs s v k at n h =
     let made : blanked 514 (p ++ hs) s k ≡ p ++ new = subst (λ (x : ℕ). blanked x (p ++ hs) s k ≡ p ++ new) e (blanked-after p hs s k) in
     let first : set (set (p ++ new) 0 1) 1 s ≡ 1 ∷ s ∷ (ns ++ new) = refl in
     let number : set (1 ∷ s ∷ (ns ++ new)) (2 + at) s ≡ (1 ∷ s ∷ set ns at s) ++ new =
-        set-after (1 ∷ s ∷ []) (ns ++ new) at s
-        ∙ ap (λ (l : List ℕ). 1 ∷ s ∷ l) (set-append-left ns new at s (rw n h)) in
+    set-after (1 ∷ s ∷ []) (ns ++ new) at s
+    ∙ ap (λ (l : List ℕ). 1 ∷ s ∷ l) (set-append-left ns new at s (rw n h)) in
     let q : List ℕ = 1 ∷ s ∷ set ns at s in
     let f : length q ≡ 514 = ap (λ (x : ℕ). suc (suc x)) (length-set ns at s ∙ n) in
     let height : set (q ++ new) (514 + at) v ≡ q ++ set new at v =
-        subst (λ (x : ℕ). set (q ++ new) (x + at) v ≡ q ++ set new at v) f (set-after q new at v) in
+    subst (λ (x : ℕ). set (q ++ new) (x + at) v ≡ q ++ set new at v) f (set-after q new at v) in
     ap (λ (l : List ℕ). set (set (set (set l 0 1) 1 s) (2 + at) s) (514 + at) v) made
     ∙ (ap (λ (l : List ℕ). set (set l (2 + at) s) (514 + at) v) first
     ∙ (ap (λ (l : List ℕ). set l (514 + at) v) number
@@ -74,12 +84,26 @@ pub cells-whole : (cells : List ℕ) → length cells ≡ 1026 → cells ≡ cel
 cells-whole cells n =
     two-cells cells (omega arith)
     ∙ ap (λ (l : List ℕ). getD cells 0 0 ∷ getD cells 1 0 ∷ l)
-      (sym (take-append-drop 512 (drop 2 cells)) ∙ ap (λ (l : List ℕ). take 512 (drop 2 cells) ++ l) (drop-drop 512 2 cells))
+    (sym (take-append-drop 512 (drop 2 cells)) ∙ ap (λ (l : List ℕ). take 512 (drop 2 cells) ++ l) (drop-drop 512 2 cells))
 
 length-numbers : (cells : List ℕ) → length cells ≡ 1026 → length (take 512 (drop 2 cells)) ≡ 512
 length-numbers cells n = simp (length-take, length-drop) (omega arith)
 
--- a taken sample
+-- a taken sample: its height, and the hours that it moves the ring on by
+pub taken-low : (any newest s h : ℕ) → takes any newest s h ≡ true → h ≤ 100
+unfolding takes
+taken-low any newest s h t = leb-true h 100 (and-left (leb h 100) (eqb any 0 || (leb 1 (stepsTo newest s) && leb (stepsTo newest s) 512)) t)
+
+moved-on : (steps : ℕ) (first : Bool) → (first || (leb 1 steps && leb steps 512)) ≡ true → (1 ≤ cond first 512 steps) × (cond first 512 steps ≤ 512)
+moved-on steps true t = (omega arith, omega arith)
+moved-on steps false t = (leb-true 1 steps (and-left (leb 1 steps) (leb steps 512) t), leb-true steps 512 (and-right (leb 1 steps) (leb steps 512) t))
+
+pub taken-hours : (any newest s h : ℕ) → takes any newest s h ≡ true → (1 ≤ hoursOn any newest s) × (hoursOn any newest s ≤ 512)
+unfolding takes hoursOn
+taken-hours any newest s h t =
+    moved-on (stepsTo newest s) (eqb any 0) (and-right (leb h 100) (eqb any 0 || (leb 1 (stepsTo newest s) && leb (stepsTo newest s) 512)) t)
+
+-- a sample by its test
 pub taken-number : (r : Ring) (s h : ℕ) → takes (r .any) (r .newest) s h ≡ true → 0 ≡ taking r s h .number
 unfolding taking
 taken-number r s h t = rw t
@@ -95,6 +119,24 @@ refused-number r s h t = rw t
 pub refused-ring : (r : Ring) (s h : ℕ) → takes (r .any) (r .newest) s h ≡ false → r ≡ taking r s h .ring
 unfolding taking
 refused-ring r s h t = rw t
+
+-- the answer to a sample: refused, and taken
+pub sample-refused : (r : Ring) (s h : ℕ) → takes (r .any) (r .newest) s h ≡ false → _≡_ {A = Taken} (record { number = 27; ring = r }) (taking r s h)
+unfolding taking
+sample-refused r s h t = rw t
+
+pub sample-taken : (r : Ring) (blanks : List ℕ) (s h k at : ℕ) → takes (r .any) (r .newest) s h ≡ true
+    → k ≡ hoursOn (r .any) (r .newest) s → at ≡ slotOf s 0 → blanks ≡ blanked 0 (r .heights) s (k - 1)
+    → _≡_ {A = Taken}
+    (record { number = 0; ring = record { any = 1; newest = s; numbers = set (r .numbers) at s; heights = set blanks at (h + 1) } })
+    (taking r s h)
+unfolding taking withSample
+sample-taken r blanks s h k at t m a b =
+    let f : List ℕ → ℕ → Taken = λ (l : List ℕ) (x : ℕ).
+    record { number = 0; ring = record { any = 1; newest = s; numbers = set (r .numbers) x s; heights = set l x (h + 1) } } in
+    rw t (ap (λ (l : List ℕ). f l at) b
+    ∙ (ap (λ (x : ℕ). f (blanked 0 (r .heights) s (x - 1)) at) m
+    ∙ ap (λ (x : ℕ). f (blanked 0 (r .heights) s (hoursOn (r .any) (r .newest) s - 1)) x) a))
 
 -- the cells after a sample: refused, and taken
 pub cells-refused : (cells : List ℕ) (s h : ℕ) → length cells ≡ 1026 → takes (getD cells 0 0) (getD cells 1 0) s h ≡ false
@@ -118,8 +160,8 @@ cells-taken cells blanks s h k at n t m a l b =
     ∙ ap cellsOf (taken-ring (ringIn cells) s h t)))))
 
 -- the heights from the oldest on: one more, and all of them
-pub heights-start : (r : Ring) (hours : ℕ) (l : List ℕ) → take 0 l ++ heightsOf r (hours - 0) ≡ heightsOf r hours
-heights-start r hours l = let e : hours - 0 ≡ hours = omega arith in rw e
+pub heights-start : (r : Ring) (hours : ℕ) → heightsOf r (hours - 0) ≡ heightsOf r hours
+heights-start r hours = let e : hours - 0 ≡ hours = omega arith in rw e
 
 pub heights-turn : (r : Ring) (hours i v age : ℕ) (l : List ℕ) → i < hours → i < length l → age ≡ hours - 1 - i → v ≡ hourIn r age .height
     → take i l ++ heightsOf r (hours - i) ≡ heightsOf r hours → take (i + 1) (set l i v) ++ heightsOf r (hours - (i + 1)) ≡ heightsOf r hours
@@ -140,6 +182,19 @@ unfolding heightsOf
 heights-end r hours i l e t =
     let z : hours - hours ≡ 0 = omega arith in
     sym (append-nil (take hours l)) ∙ ap (λ (x : ℕ). take hours l ++ heightsOf r x) (sym z) ∙ subst (λ (x : ℕ). take x l ++ heightsOf r (hours - x) ≡ heightsOf r hours) e t
+
+-- the ring of its numbers and heights
+pub ring-made : (cells ns hs : List ℕ) → length cells ≡ 1026 → ns ≡ take 512 (drop 2 cells) → hs ≡ take 512 (drop 514 cells)
+    → _≡_ {A = Ring} (record { any = getD cells 0 0; newest = getD cells 1 0; numbers = ns; heights = hs }) (ringIn cells)
+ring-made cells ns hs n e f =
+    let m : length (drop 514 cells) ≤ 512 = simp length-drop (omega arith) in
+    let g : hs ≡ drop 514 cells = f ∙ take-all 512 (drop 514 cells) m in
+    λ t. record { any = getD cells 0 0; newest = getD cells 1 0; numbers = e t; heights = g t }
+
+-- a struct tells the length of an array in this form
+pub array-length : (xs : List ℕ) → length (map (λ (x : ℕ). x) xs) ≡ length xs
+array-length [] = refl
+array-length (x ∷ xs) = ap suc (array-length xs)
 
 -- a part copied: one number more
 pub part-turn : (cells part : List ℕ) (from i : ℕ) → from + i < length cells → i < length part → take i part ≡ take i (drop from cells)

@@ -7,8 +7,8 @@ use mathlib.Core.List.{List}
 use lib.ListN.{length, getD, take, drop}
 use lib.Seq.{getD-take, getD-drop}
 use lib.Dec.{leb, eqb}
-use borrow.Author.Tests.{le-leb, lt-leb}
-use Rattle.record.proofs.Choice.{both-ways}
+use borrow.Author.Tests.{le-leb, lt-leb, leb-true}
+use Rattle.record.proofs.Choice.{and-left, and-right, both-ways}
 use Rattle.ring.specs.Samples.{stepsTo, Telling, sampleOf, blank, notTold}
 use Rattle.ring.specs.Kept.{slotOf, slotHour, hourIn, tellingOf, hourOf, ringIn}
 use Rattle.ring.specs.declared.Ring.{Ring}
@@ -18,6 +18,11 @@ use Rattle.ring.specs.declared.Hour.the-variants.{Sample as Held, Blank,
 -- whether a slot holds the sample of an age, at steps from its number to the newest
 abbrev pub isHeld : ℕ → ℕ → ℕ → ℕ → Bool
 isHeld any at held age = not (eqb any 0) && (eqb at age && (leb 1 held && leb held 101))
+
+pub held-some : (any at held age : ℕ) → isHeld any at held age ≡ true → 1 ≤ held
+held-some any at held age h =
+    let both = leb 1 held && leb held 101 in
+    leb-true 1 held (and-left (leb 1 held) (leb held 101) (and-right (eqb at age) both (and-right (not (eqb any 0)) (eqb at age && both) h)))
 
 module _ (any newest number held age at : ℕ) (steps : at ≡ stepsTo number newest) where
   pub answer-held : isHeld any at held age ≡ true → Held (held - 1) ≡ hourOf (slotHour any newest number held age)
@@ -59,10 +64,17 @@ pub answers : (r : Ring) (age : ℕ) (h : Hour) → age ≤ 511
     → h ≡ hourOf (slotHour (r .any) (r .newest) (getD (r .numbers) (slotOf (r .newest) age) 0) (getD (r .heights) (slotOf (r .newest) age) 0) age)
     → Answers h (hourIn r age)
 answers r age h l e =
-    let k = slotOf (r .newest) age in
-    ( ap tellingOf e ∙ slot-whole (r .any) (r .newest) (getD (r .numbers) k 0) (getD (r .heights) k 0) age ∙ hour-slot r age l
-    , e ∙ ap hourOf (hour-slot r age l)
+    let k = slotOf (r .newest) age in (
+      ap tellingOf e ∙ slot-whole (r .any) (r .newest) (getD (r .numbers) k 0) (getD (r .heights) k 0) age ∙ hour-slot r age l,
+      e ∙ ap hourOf (hour-slot r age l),
     )
+
+-- the height that is told
+pub told-height : (r : Ring) (age k v : ℕ) (t : Telling) → age ≤ 511 → k ≡ slotOf (r .newest) age
+    → t ≡ slotHour (r .any) (r .newest) (getD (r .numbers) k 0) (getD (r .heights) k 0) age → v ≡ t .height → v ≡ hourIn r age .height
+told-height r age k v t l s e h =
+    h ∙ ap (λ (x : Telling). x .height) (e
+    ∙ (ap (λ (i : ℕ). slotHour (r .any) (r .newest) (getD (r .numbers) i 0) (getD (r .heights) i 0) age) s ∙ hour-slot r age l))
 
 -- the same of a ring as a C caller holds it
 pub number-in : (cells : List ℕ) (k : ℕ) → k < 512 → getD (take 512 (drop 2 cells)) k 0 ≡ getD cells (2 + k) 0
@@ -76,5 +88,5 @@ pub answers-in : (cells : List ℕ) (age k : ℕ) (h : Hour) → age ≤ 511 →
     → Answers h (hourIn (ringIn cells) age)
 answers-in cells age k h l s b e =
     answers (ringIn cells) age h l
-      (subst (λ (i : ℕ). h ≡ hourOf (slotHour (getD cells 0 0) (getD cells 1 0) (getD (take 512 (drop 2 cells)) i 0) (getD (drop 514 cells) i 0) age)) s
-        (rw (number-in cells k b, height-in cells k) e))
+    (subst (λ (i : ℕ). h ≡ hourOf (slotHour (getD cells 0 0) (getD cells 1 0) (getD (take 512 (drop 2 cells)) i 0) (getD (drop 514 cells) i 0) age)) s
+    (rw (number-in cells k b, height-in cells k) e))

@@ -93,8 +93,9 @@ pub fn take_sample(ring: Ring, sequence: u16, height: u32) -> Taken
     }
 }
 
-// The same in place, for a ring as a C caller holds it.
-pub fn take_into(cells: &mut [u16; 1026], sequence: u16, height: u32) -> u32
+// The same in place, for a ring as 1,026 numbers.
+fn take_cells(cells: &mut [u16], sequence: u16, height: u32) -> u32
+    requires { ⌜ length (now cells) ≡ 1026 ⌝ }
     ensures { λ r. ⌜ r ≡ taking (ringIn (now (cells .entry))) sequence height .number ⌝ }
     ensures { λ r. ⌜ now (cells .exit) ≡ cellsOf (taking (ringIn (now (cells .entry))) sequence height .ring) ⌝ }
 {
@@ -113,15 +114,30 @@ pub fn take_into(cells: &mut [u16; 1026], sequence: u16, height: u32) -> u32
     0
 }
 
-// What is told of the hour of an age from its slot: the number of the sample there, and one more than its height.
-fn slot_hour(any: u16, newest: u16, number: u16, held: u16, age: u32) -> Hour
-    ensures { λ r. ⌜ tellingOf r ≡ slotHour any newest number held age ⌝ }
+// The same for a ring as a C caller holds it.
+pub fn take_into(cells: &mut [u16; 1026], sequence: u16, height: u32) -> u32
+    ensures { λ r. ⌜ r ≡ taking (ringIn (now (cells .entry))) sequence height .number ⌝ }
+    ensures { λ r. ⌜ now (cells .exit) ≡ cellsOf (taking (ringIn (now (cells .entry))) sequence height .ring) ⌝ }
+{
+    take_cells(cells, sequence, height)
+}
+
+// The answer of a slot about the hour of an age: the number of the sample there, and one more than its height.
+fn slot_answer(any: u16, newest: u16, number: u16, held: u16, age: u32) -> Hour
+    ensures { λ r. ⌜ r ≡ hourOf (slotHour any newest number held age) ⌝ }
 {
     let at = steps_to(number, newest) as u32;
-    if (any != 0) & (at == age) & (1 <= held) & (held <= 101) {
+    if (any != 0) & ((at == age) & ((1 <= held) & (held <= 101))) {
         return Hour::Sample(held as u32 - 1);
     }
     Hour::Blank
+}
+
+// What is told of the hour of an age from its slot.
+fn slot_hour(any: u16, newest: u16, number: u16, held: u16, age: u32) -> Hour
+    ensures { λ r. ⌜ tellingOf r ≡ slotHour any newest number held age ⌝ }
+{
+    slot_answer(any, newest, number, held, age)
 }
 
 // What the ring tells of the hour of an age.
@@ -133,7 +149,7 @@ pub fn hour_at(ring: Ring, age: u32) -> Hour
         return Hour::Refused(27);
     }
     let k = slot_of(ring.newest, age);
-    slot_hour(ring.any, ring.newest, ring.numbers[k], ring.heights[k], age)
+    slot_answer(ring.any, ring.newest, ring.numbers[k], ring.heights[k], age)
 }
 
 // The same of a ring as a C caller holds it.
@@ -146,7 +162,7 @@ pub fn hour_in(cells: &[u16; 1026], age: u32) -> Hour
     }
     let newest = cells[1];
     let k = slot_of(newest, age);
-    slot_hour(cells[0], newest, cells[2 + k], cells[514 + k], age)
+    slot_answer(cells[0], newest, cells[2 + k], cells[514 + k], age)
 }
 
 // The height that is told of an hour; 0 where there is none.
@@ -183,10 +199,11 @@ fn cells_from(cells: &[u16; 1026], from: usize) -> [u16; 512]
     requires { ⌜ from + 512 ≤ 1026 ⌝ }
     ensures { λ r. ⌜ r ≡ take 512 (drop from (now (cells .entry))) ⌝ }
 {
+    let all = &cells[..];
     let mut part = [0u16; 512];
     let mut i = 0;
     while i < 512 {
-        part[i] = cells[from + i];
+        part[i] = all[from + i];
         i += 1;
     }
     part
@@ -196,9 +213,10 @@ fn cells_from(cells: &[u16; 1026], from: usize) -> [u16; 512]
 pub fn ring_from(cells: &[u16; 1026]) -> Ring
     ensures { λ r. ⌜ r ≡ ringIn (now (cells .entry)) ⌝ }
 {
+    let all = &cells[..];
     Ring {
-        any: cells[0],
-        newest: cells[1],
+        any: all[0],
+        newest: all[1],
         numbers: cells_from(cells, 2),
         heights: cells_from(cells, 514),
     }

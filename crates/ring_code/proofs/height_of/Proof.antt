@@ -1,3 +1,4 @@
+use Rattle.ring.specs.Kept.{tellingOf}
 use borrow.Author.Needs.{needs}
 use Rattle.ring_code.proofs.height_of.Statement.{statement}
 use Rattle.ring_code.proofs.height_of.Tie as tie
@@ -18,15 +19,18 @@ enum-told-2 c = search needs
 
 -- src/lib.rt:153:1
 returns : tie.Need-returns
-returns c = ?
+unfolding tellingOf
+returns c = search needs
 
 -- src/lib.rt:153:1
 returns-2 : tie.Need-returns-2
-returns-2 c = ?
+unfolding tellingOf
+returns-2 c = search needs
 
 -- src/lib.rt:153:1
 returns-3 : tie.Need-returns-3
-returns-3 c = ?
+unfolding tellingOf
+returns-3 c = search needs
 
 pub height-of-spec : {M : Type 1} → statement M
 height-of-spec =

@@ -1,3 +1,7 @@
+use Rattle.ring.specs.Kept.{hoursOn}
+use Rattle.record.proofs.Choice.{yes, no}
+use borrow.Author.Tests.{eq-eqb, ne-eqb}
+use mathlib.Core.Path.{refl}
 use borrow.Author.Needs.{needs}
 use Rattle.ring_code.proofs.hours_on.Statement.{statement}
 use Rattle.ring_code.proofs.hours_on.Tie as tie
@@ -7,7 +11,8 @@ use Rattle.ring_code.proofs.steps_to.Reads as steps-to-reads
 
 -- src/lib.rt:52:9
 returns : tie.Need-returns
-returns c = ?
+unfolding hoursOn
+returns c = yes _ (eq-eqb _ _ (c .if1 .taken)) refl
 
 -- src/lib.rt:54:5
 steps-to-requires : tie.Need-steps-to-requires
@@ -19,7 +24,8 @@ cast-result c = search needs
 
 -- src/lib.rt:48:1
 returns-2 : tie.Need-returns-2
-returns-2 c = ?
+unfolding hoursOn
+returns-2 c = no _ (ne-eqb _ _ (c .before .if1 .left)) (c .steps-to .ensures)
 
 pub hours-on-spec : {M : Type 1} → statement M
 hours-on-spec = tie.close (tie.spec returns steps-to-requires cast-result returns-2)

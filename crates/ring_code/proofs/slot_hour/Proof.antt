@@ -1,29 +1,20 @@
+use mathlib.Core.Path.{_∙_, ap}
+use Rattle.ring.specs.Kept.{tellingOf}
+use Rattle.ring.proofs.Told.{slot-whole}
 use borrow.Author.Needs.{needs}
 use Rattle.ring_code.proofs.slot_hour.Statement.{statement}
 use Rattle.ring_code.proofs.slot_hour.Tie as tie
 use Rattle.ring_code.proofs.slot_hour.Reads as reads
 use Rattle.ring_code.proofs.slot_hour.Lts as lts
-use Rattle.ring_code.proofs.steps_to.Reads as steps-to-reads
+use Rattle.ring_code.proofs.slot_answer.Reads as slot-answer-reads
 
--- src/lib.rt:120:14
-steps-to-requires : tie.Need-steps-to-requires
-steps-to-requires c κs = search needs
+-- src/lib.rt:131:5
+slot-answer-requires : tie.Need-slot-answer-requires
+slot-answer-requires c κs = search needs
 
--- src/lib.rt:120:14
-cast-at : tie.Need-cast-at
-cast-at c = search needs
-
--- src/lib.rt:122:29
-sub-t16 : tie.Need-sub-t16
-sub-t16 c = ?
-
--- src/lib.rt:122:9
+-- src/lib.rt:128:1
 returns : tie.Need-returns
-returns c = ?
-
--- src/lib.rt:117:1
-returns-2 : tie.Need-returns-2
-returns-2 c = ?
+returns c = ap tellingOf (c .slot-answer .ensures) ∙ slot-whole _ _ _ _ _
 
 pub slot-hour-spec : {M : Type 1} → statement M
-slot-hour-spec = tie.close (tie.spec steps-to-requires cast-at sub-t16 returns returns-2)
+slot-hour-spec = tie.close (tie.spec slot-answer-requires returns)

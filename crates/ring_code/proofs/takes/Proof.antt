@@ -1,3 +1,4 @@
+use Rattle.ring.specs.Kept.{takes}
 use borrow.Author.Needs.{needs}
 use Rattle.ring_code.proofs.takes.Statement.{statement}
 use Rattle.ring_code.proofs.takes.Tie as tie
@@ -11,7 +12,8 @@ steps-to-requires c κs = search needs
 
 -- src/lib.rt:40:1
 returns : tie.Need-returns
-returns c = ?
+unfolding takes
+returns c = cc
 
 pub takes-spec : {M : Type 1} → statement M
 takes-spec = tie.close (tie.spec steps-to-requires returns)
