@@ -7,7 +7,7 @@ use mathlib.Core.Logic.{_⊎_, inl, inr}
 use native.Mathlib.Nat.{mul-le-mul}
 use native.Mathlib.Omega.{arith}
 use lib.ListN.{length, take, drop, length-append}
-use lib.Seq.{sets, length-sets, take-at, drop-append-add}
+use lib.Seq.{sets, take-at, drop-append-add}
 use lib.Dec.{leb, ltb, eqb}
 use borrow.Author.Tests.{leb-true, ltb-false, eqb-true, not-false, eq-eqb, ne-eqb, lt-ltb, le-ltb, lt-leb, le-leb}
 use Rattle.record.specs.Lists.{partsFrom, partsOf}
@@ -276,10 +276,6 @@ words-most n depth w h e = mul-le-mul {n₂ = 5} {m₂ = 64} h (omega (arith, e,
 
 pub enough-words : (a : Ask) (site factory digits : List ℕ) (w room : ℕ) → w ≡ 8 * lineWords (a .depth) 8 → length digits * w ≤ room → length (digitWords a site factory digits) ≤ room
 enough-words a site factory digits w room e h = rw (digit-words-count a site factory digits, ← e) h
-
--- a buffer keeps its length
-pub stored-length : (old new : List ℕ) (at : ℕ) (b : List ℕ) → new ≡ sets old at b → length new ≡ length old
-stored-length old new at b e = ap (λ (l : List ℕ). length l) e ∙ length-sets old at b
 
 -- ---- the strip of heights and digits, for an ask without a fault
 module _ (a : Ask) (heights digits site factory : List ℕ) where
