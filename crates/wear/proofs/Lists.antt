@@ -6,11 +6,11 @@ use mathlib.Core.List.{List, [], _∷_, _++_, map, append-assoc}
 use mathlib.Core.Logic.{_⊎_, inl, inr}
 use native.Mathlib.Nat.{mul-le-mul}
 use native.Mathlib.Omega.{arith}
-use lib.ListN.{length, take, drop, length-append}
+use lib.ListN.{length, getD, take, drop, length-append}
 use lib.Seq.{sets, take-at, drop-append-add}
 use lib.Dec.{leb, ltb, eqb}
 use borrow.Author.Tests.{leb-true, ltb-false, eqb-true, not-false, eq-eqb, ne-eqb, lt-ltb, le-ltb, lt-leb, le-leb}
-use Rattle.record.specs.Lists.{partsFrom, partsOf}
+use Rattle.record.specs.Lists.{AllBelow, partsFrom, partsOf}
 use Rattle.record.specs.Checks.{row, firstOf, AllPass, Numbered}
 use Rattle.record.proofs.Checks.{first-part, second-part, none, row-fails, row-passes, rows-end}
 use Rattle.record.proofs.Choice.{and-left, and-right, or-elim, both-ways}
@@ -19,11 +19,16 @@ use Rattle.pixel.specs.Depth.{isDepth}
 use Rattle.command.specs.Command.{commandOf, commandBytes, lineWords}
 use Rattle.command.specs.declared.Command.{Command}
 use Rattle.command.proofs.Bytes.{Storable, command-back}
-use Rattle.wear.specs.Strip.{Strip, stripWith, column, columns, writes, stripCommands, listBytes, stripList, digitWords, stripWords, allInReach, askRows, stripRows, Stripping, stripping, listAfter, wordsAfter, strippingOf, answerOf}
-use Rattle.wear.specs.Limits.{Checked, commandCount}
+use Rattle.ring.specs.Kept.{heightsOf}
+use Rattle.ring.specs.declared.Ring.{Ring}
+use Rattle.ring.proofs.Heights.{heights-count, heights-low}
+use Rattle.wear.specs.Font.{digitsOf}
+use Rattle.wear.specs.Strip.{digitsIn, Strip, stripWith, stripFor, column, columns, writes, stripCommands, listBytes, stripList, digitWords, stripWords, allInReach, askRows, stripRows, Stripping, stripping, listAfter, wordsAfter, strippingOf, answerOf}
+use Rattle.wear.specs.Limits.{Checked, Drawable, commandCount}
 use Rattle.wear.specs.declared.Ask.{Ask}
 use Rattle.wear.specs.declared.StripAnswer.{StripAnswer}
 use Rattle.wear.specs.declared.StripAnswer.the-variants.{Made, Refused}
+use Rattle.wear.proofs.Fonts.{digits-low, digits-count}
 use Rattle.wear.proofs.Words.{digit-words-count}
 
 -- ---- the bytes
@@ -339,10 +344,13 @@ module _ (a : Ask) (heights digits site factory : List ℕ) where
               → (strippingOf (Made bytes count) ≡ stripping strip (length list) (length words)) × ((l2 ≡ listAfter strip list words) × (new ≡ wordsAfter strip list words))
           whole-strip list words l1 l2 new at bytes count w r v b d k z f g i j =
               let n : count ≡ length (stripWords strip) = k ∙ ap (λ (x : ℕ). length digits * x) d ∙ sym (digit-words-count a site factory digits) in
-              let m : firstOf (stripRows strip (length list) (length words)) ≡ 0 = (λ t. firstOf (stripRows strip (sym r t) (sym v t))) ∙ strip-made (subst (λ (x : ℕ). x ≤ wordRoom) (n ∙ digit-words-count a site factory digits) z) in
-              (made-numbers strip list words m bytes count (b ∙ sym strip-bytes) n,
-              (made-list strip list words m l2 (strip-stored list l1 l2 at f g i) (omega (arith, strip-bytes, h, r)),
-              made-words strip list words m new j (omega (arith, n, z, v))))
+              let m : firstOf (stripRows strip (length list) (length words)) ≡ 0 = (λ t. firstOf (stripRows strip (sym r t) (sym v t))) ∙ strip-made (subst (λ (x : ℕ). x ≤ wordRoom) (n ∙ digit-words-count a site factory digits) z) in (
+                made-numbers strip list words m bytes count (b ∙ sym strip-bytes) n,
+                (
+                  made-list strip list words m l2 (strip-stored list l1 l2 at f g i) (omega (arith, strip-bytes, h, r)),
+                  made-words strip list words m new j (omega (arith, n, z, v)),
+                ),
+              )
 
 -- a strip with an hour has a command
 pub some-bytes : (a : Ask) (heights digits site factory : List ℕ) → 1 ≤ length heights → 0 < length (stripList (stripWith a heights digits site factory))
@@ -353,3 +361,39 @@ some-bytes a (x ∷ heights) digits site factory h = omega (arith, strip-bytes a
     one : (t : Bool) → 1 ≤ cond t 1 2
     one true = omega arith
     one false = omega arith
+
+-- ---- the strip of a ring
+pub ring-drawable : (r : Ring) (n : ℕ) → n ≤ 24 → Drawable (heightsOf r n)
+ring-drawable r n h = record { count = omega (arith, heights-count r n); low = heights-low r n }
+
+pub digits-drawable : (any newest : ℕ) → AllBelow 10 (digitsIn any newest)
+digits-drawable any newest = λ k. both-ways (λ (l : List ℕ). getD l k 0 < 10) (eqb any 0) [] (digitsOf newest) (λ e. omega arith) (λ e. digits-low 5 newest k)
+
+pub digits-few : (any newest : ℕ) → length (digitsIn any newest) ≤ 5
+digits-few any newest = both-ways (λ (l : List ℕ). length l ≤ 5) (eqb any 0) [] (digitsOf newest) (λ e. omega arith) (λ e. digits-count 5 newest)
+
+-- an answer, and both buffers afterwards, are those of a strip
+abbrev StripIs : Strip → List ℕ → List ℕ → StripAnswer → List ℕ → List ℕ → Type 0
+StripIs t list words r l w =
+    (strippingOf r ≡ stripping t (length list) (length words))
+    × ((r ≡ answerOf (stripping t (length list) (length words))) × ((l ≡ listAfter t list words) × (w ≡ wordsAfter t list words)))
+
+pub strip-faulty : (t : Strip) (list words : List ℕ) (n : ℕ) → n ≡ firstOf (askRows (t .ask) (length (t .factory))) → (n ≡ 0 → ⊥) → StripIs t list words (Refused n) list words
+strip-faulty t list words n e h =
+    let f = faulty t (length list) (length words) n e h in
+    (refused-numbers t list words n f h, (refused-answer t list words n f h, (refused-list t list words n f h, refused-words t list words n f h)))
+
+pub strip-of : (r : Ring) (a : Ask) (site factory list words hs ds : List ℕ) → hs ≡ heightsOf r (a .hours) → ds ≡ digitsIn (r .any) (r .newest) → 1 ≤ a .hours
+    → (answer : StripAnswer) (l w : List ℕ)
+    → (strippingOf answer ≡ stripping (stripWith a hs ds site factory) (length list) (length words))
+    × ((l ≡ listAfter (stripWith a hs ds site factory) list words) × (w ≡ wordsAfter (stripWith a hs ds site factory) list words))
+    → StripIs (stripFor r a site factory) list words answer l w
+strip-of r a site factory list words hs ds p q h answer l w e =
+    let t : stripWith a hs ds site factory ≡ stripFor r a site factory = λ i. stripWith a (p i) (q i) site factory in
+    let n = e .0 ∙ ap (λ (s : Strip). stripping s (length list) (length words)) t in (
+      n,
+      (
+        answered (stripFor r a site factory) list words answer (some-bytes a (heightsOf r (a .hours)) (digitsIn (r .any) (r .newest)) site factory (omega (arith, h, heights-count r (a .hours)))) n,
+        (e .1 .0 ∙ ap (λ (s : Strip). listAfter s list words) t, e .1 .1 ∙ ap (λ (s : Strip). wordsAfter s list words) t),
+      ),
+    )
