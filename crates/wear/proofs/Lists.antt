@@ -6,24 +6,29 @@ use mathlib.Core.List.{List, [], _∷_, _++_, map, append-assoc}
 use mathlib.Core.Logic.{_⊎_, inl, inr}
 use native.Mathlib.Nat.{mul-le-mul}
 use native.Mathlib.Omega.{arith}
-use lib.ListN.{length, take, drop, length-append}
+use lib.ListN.{length, getD, take, drop, length-append}
 use lib.Seq.{sets, take-at, drop-append-add}
 use lib.Dec.{leb, ltb, eqb}
-use borrow.Author.Tests.{leb-true, ltb-false, eqb-true, not-false, eq-eqb, ne-eqb, lt-ltb, le-ltb}
-use Rattle.record.specs.Lists.{partsFrom, partsOf}
-use Rattle.record.specs.Checks.{firstOf, AllPass, Numbered}
-use Rattle.record.proofs.Checks.{first-part, second-part, none}
+use borrow.Author.Tests.{leb-true, ltb-false, eqb-true, not-false, eq-eqb, ne-eqb, lt-ltb, le-ltb, lt-leb, le-leb}
+use Rattle.record.specs.Lists.{AllBelow, partsFrom, partsOf}
+use Rattle.record.specs.Checks.{row, firstOf, AllPass, Numbered}
+use Rattle.record.proofs.Checks.{first-part, second-part, none, row-fails, row-passes, rows-end}
 use Rattle.record.proofs.Choice.{and-left, and-right, or-elim, both-ways}
 use Rattle.record.proofs.Stores.{sets-append, sets-over}
 use Rattle.pixel.specs.Depth.{isDepth}
 use Rattle.command.specs.Command.{commandOf, commandBytes, lineWords}
 use Rattle.command.specs.declared.Command.{Command}
 use Rattle.command.proofs.Bytes.{Storable, command-back}
-use Rattle.wear.specs.Strip.{Strip, stripWith, column, columns, writes, stripCommands, listBytes, stripList, stripWords, allInReach, askRows, stripRows, Stripping, stripping, listAfter, wordsAfter, strippingOf, answerOf}
-use Rattle.wear.specs.Limits.{Checked, commandCount}
+use Rattle.ring.specs.Kept.{heightsOf}
+use Rattle.ring.specs.declared.Ring.{Ring}
+use Rattle.ring.proofs.Heights.{heights-count, heights-low}
+use Rattle.wear.specs.Font.{digitsOf}
+use Rattle.wear.specs.Strip.{digitsIn, Strip, stripWith, stripFor, column, columns, writes, stripCommands, listBytes, stripList, digitWords, stripWords, allInReach, askRows, stripRows, Stripping, stripping, listAfter, wordsAfter, strippingOf, answerOf}
+use Rattle.wear.specs.Limits.{Checked, Drawable, commandCount}
 use Rattle.wear.specs.declared.Ask.{Ask}
 use Rattle.wear.specs.declared.StripAnswer.{StripAnswer}
 use Rattle.wear.specs.declared.StripAnswer.the-variants.{Made, Refused}
+use Rattle.wear.proofs.Fonts.{digits-low, digits-count}
 use Rattle.wear.proofs.Words.{digit-words-count}
 
 -- ---- the bytes
@@ -101,6 +106,43 @@ reach-append (c ∷ xs) ys =
 asked-numbered : (a : Ask) (n : ℕ) → Numbered (askRows a n)
 unfolding Numbered askRows
 asked-numbered a n = (omega arith, (omega arith, (omega arith, (omega arith, (omega arith, (omega arith, tt))))))
+
+-- by the check that fails
+module _ (a : Ask) (factory : ℕ) where
+  pub fault-2 : not (isDepth (a .depth)) ≡ true → 2 ≡ firstOf (askRows a factory)
+  unfolding askRows
+  fault-2 e = row-fails _ e
+
+  module _ (d : not (isDepth (a .depth)) ≡ false) where
+    pub fault-11 : a .depth < 8 → 11 ≡ firstOf (askRows a factory)
+    unfolding askRows
+    fault-11 e = row-passes 2 _ d (row-fails _ (lt-ltb (a .depth) 8 e))
+
+    module _ (n : 8 ≤ a .depth) where
+      pub fault-12 : (eqb (a .depth) 8 && (ltb 255 (a .bar) || ltb 255 (a .background))) ≡ true → 12 ≡ firstOf (askRows a factory)
+      unfolding askRows
+      fault-12 e = row-passes 2 _ d (row-passes 11 _ (le-ltb (a .depth) 8 n) (row-fails _ e))
+
+      module _ (c : (eqb (a .depth) 8 && (ltb 255 (a .bar) || ltb 255 (a .background))) ≡ false) where
+        pub fault-hours : not (leb 1 (a .hours) && leb (a .hours) 24) ≡ true → 27 ≡ firstOf (askRows a factory)
+        unfolding askRows
+        fault-hours e = row-passes 2 _ d (row-passes 11 _ (le-ltb (a .depth) 8 n) (row-passes 12 _ c (row-fails _ e)))
+
+        module _ (h : not (leb 1 (a .hours) && leb (a .hours) 24) ≡ false) where
+          pub fault-column : not (leb 1 (a .column) && leb (a .column) 16) ≡ true → 27 ≡ firstOf (askRows a factory)
+          unfolding askRows
+          fault-column e = row-passes 2 _ d (row-passes 11 _ (le-ltb (a .depth) 8 n) (row-passes 12 _ c (row-passes 27 _ h (row-fails _ e))))
+
+          module _ (w : not (leb 1 (a .column) && leb (a .column) 16) ≡ false) where
+            by-font : (x : ℕ) → x ≡ firstOf (row 27 (not (leb 80 factory)) ∷ []) → x ≡ firstOf (askRows a factory)
+            unfolding askRows
+            by-font x e = row-passes 2 _ d (row-passes 11 _ (le-ltb (a .depth) 8 n) (row-passes 12 _ c (row-passes 27 _ h (row-passes 27 _ w e))))
+
+            pub fault-font : factory < 80 → 27 ≡ firstOf (askRows a factory)
+            fault-font e = by-font 27 (row-fails [] (ap not (lt-leb 80 factory e)))
+
+            pub fault-none : 80 ≤ factory → 0 ≡ firstOf (askRows a factory)
+            fault-none e = by-font 0 (row-passes 27 [] (ap not (le-leb 80 factory e)) rows-end)
 
 -- what they leave known
 eight-or-sixteen : (d : ℕ) → isDepth d ≡ true → 8 ≤ d → (d ≡ 8) ⊎ (d ≡ 16)
@@ -237,6 +279,9 @@ pub words-most : (n depth w : ℕ) → n ≤ 5 → w ≡ 8 * lineWords depth 8 �
 unfolding lineWords
 words-most n depth w h e = mul-le-mul {n₂ = 5} {m₂ = 64} h (omega (arith, e, both-ways (λ (k : ℕ). k ≤ 8) (eqb depth 8) 4 8 (λ q. omega arith) (λ q. omega arith)))
 
+pub enough-words : (a : Ask) (site factory digits : List ℕ) (w room : ℕ) → w ≡ 8 * lineWords (a .depth) 8 → length digits * w ≤ room → length (digitWords a site factory digits) ≤ room
+enough-words a site factory digits w room e h = rw (digit-words-count a site factory digits, ← e) h
+
 -- ---- the strip of heights and digits, for an ask without a fault
 module _ (a : Ask) (heights digits site factory : List ℕ) where
   abbrev strip : Strip
@@ -316,3 +361,39 @@ some-bytes a (x ∷ heights) digits site factory h = omega (arith, strip-bytes a
     one : (t : Bool) → 1 ≤ cond t 1 2
     one true = omega arith
     one false = omega arith
+
+-- ---- the strip of a ring
+pub ring-drawable : (r : Ring) (n : ℕ) → n ≤ 24 → Drawable (heightsOf r n)
+ring-drawable r n h = record { count = omega (arith, heights-count r n); low = heights-low r n }
+
+pub digits-drawable : (any newest : ℕ) → AllBelow 10 (digitsIn any newest)
+digits-drawable any newest = λ k. both-ways (λ (l : List ℕ). getD l k 0 < 10) (eqb any 0) [] (digitsOf newest) (λ e. omega arith) (λ e. digits-low 5 newest k)
+
+pub digits-few : (any newest : ℕ) → length (digitsIn any newest) ≤ 5
+digits-few any newest = both-ways (λ (l : List ℕ). length l ≤ 5) (eqb any 0) [] (digitsOf newest) (λ e. omega arith) (λ e. digits-count 5 newest)
+
+-- an answer, and both buffers afterwards, are those of a strip
+abbrev StripIs : Strip → List ℕ → List ℕ → StripAnswer → List ℕ → List ℕ → Type 0
+StripIs t list words r l w =
+    (strippingOf r ≡ stripping t (length list) (length words))
+    × ((r ≡ answerOf (stripping t (length list) (length words))) × ((l ≡ listAfter t list words) × (w ≡ wordsAfter t list words)))
+
+pub strip-faulty : (t : Strip) (list words : List ℕ) (n : ℕ) → n ≡ firstOf (askRows (t .ask) (length (t .factory))) → (n ≡ 0 → ⊥) → StripIs t list words (Refused n) list words
+strip-faulty t list words n e h =
+    let f = faulty t (length list) (length words) n e h in
+    (refused-numbers t list words n f h, (refused-answer t list words n f h, (refused-list t list words n f h, refused-words t list words n f h)))
+
+pub strip-of : (r : Ring) (a : Ask) (site factory list words hs ds : List ℕ) → hs ≡ heightsOf r (a .hours) → ds ≡ digitsIn (r .any) (r .newest) → 1 ≤ a .hours
+    → (answer : StripAnswer) (l w : List ℕ)
+    → (strippingOf answer ≡ stripping (stripWith a hs ds site factory) (length list) (length words))
+    × ((l ≡ listAfter (stripWith a hs ds site factory) list words) × (w ≡ wordsAfter (stripWith a hs ds site factory) list words))
+    → StripIs (stripFor r a site factory) list words answer l w
+strip-of r a site factory list words hs ds p q h answer l w e =
+    let t : stripWith a hs ds site factory ≡ stripFor r a site factory = λ i. stripWith a (p i) (q i) site factory in
+    let n = e .0 ∙ ap (λ (s : Strip). stripping s (length list) (length words)) t in (
+      n,
+      (
+        answered (stripFor r a site factory) list words answer (some-bytes a (heightsOf r (a .hours)) (digitsIn (r .any) (r .newest)) site factory (omega (arith, h, heights-count r (a .hours)))) n,
+        (e .1 .0 ∙ ap (λ (s : Strip). listAfter s list words) t, e .1 .1 ∙ ap (λ (s : Strip). wordsAfter s list words) t),
+      ),
+    )
