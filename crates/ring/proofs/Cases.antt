@@ -1,15 +1,14 @@
 -- Samples in and hours out, computed, each held against 02's text; the same hours by the samples themselves.
-use Prim.Native.Nat.{ℕ, zero, suc, _+_, _%_, _<_}
+use Prim.Native.Nat.{ℕ, zero, suc, _+_, _%_}
 use native.Mathlib.Omega.{arith}
-use mathlib.Core.Path.{_≡_, refl, ap, _∙_}
+use mathlib.Core.Path.{_≡_, refl, _∙_}
 use mathlib.Core.Bool.{Bool, true, false}
 use mathlib.Core.List.{List, [], _∷_, _++_, map}
-use lib.ListN.{length, getD, set, replicate}
-use Rattle.ring.specs.Samples.{Sample, stepsTo, isTaken, takenAfter, accepted, newestOf, Telling, hourBefore, telling, AllSequences}
-use Rattle.ring.specs.Kept.{emptyRing, slotOf, takes, hoursOn, blanked, withSample, taking, slotHour, hourIn, tellingOf, hourOf, ringAfter, heightsOf, ringIn, cellsOf}
+use lib.ListN.{length, set, replicate}
+use Rattle.ring.specs.Samples.{Sample, isTaken, takenAfter, accepted, newestOf, Telling, hourBefore, telling, AllSequences}
+use Rattle.ring.specs.Kept.{emptyRing, takes, hoursOn, blanked, withSample, taking, slotHour, hourIn, tellingOf, hourOf, ringAfter, heightsOf, ringIn, cellsOf}
 use Rattle.ring.specs.Claims.{isNone}
 use Rattle.ring.specs.declared.Ring.{Ring}
-use Rattle.ring.specs.declared.Hour.{Hour}
 use Rattle.ring.specs.declared.Hour.the-variants.{Sample as Held, Blank, Refused}
 use Rattle.ring.proofs.Tells.{ring-tells}
 

@@ -1,5 +1,5 @@
 -- Stores into a ring's numbers: hours made blank, a sample put into its slot, also in a ring as a C caller holds it.
-use Prim.Native.Nat.{ℕ, zero, suc, _+_, _-_, _≤_, _<_, min}
+use Prim.Native.Nat.{ℕ, zero, suc, _+_, _-_, _≤_, _<_}
 use native.Mathlib.Nat.{zero-add, suc-add}
 use native.Mathlib.Numerals.{add-one}
 use native.Mathlib.Omega.{arith}
@@ -8,7 +8,7 @@ use mathlib.Core.Bool.{Bool, true, false, _&&_, _||_, cond}
 use lib.Dec.{leb, eqb}
 use borrow.Author.Tests.{leb-true}
 use mathlib.Core.List.{List, [], _∷_, _++_, map, append-assoc, append-nil}
-use lib.ListN.{length, getD, set, take, drop, length-append, length-take, length-drop, length-set, take-append-drop, drop-of-length-le}
+use lib.ListN.{length, getD, set, take, drop, length-take, length-drop, length-set, take-append-drop}
 use lib.Seq.{take-suc, take-suc-set, take-all, set-append-left, drop-drop, getD-drop}
 use Rattle.record.proofs.Choice.{and-left, and-right}
 use Rattle.ring.specs.Samples.{stepsTo}

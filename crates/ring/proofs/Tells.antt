@@ -4,12 +4,12 @@ use native.Mathlib.Omega.{arith}
 use mathlib.Core.Path.{_≡_, refl, sym, ap, subst, _∙_}
 use mathlib.Core.Bool.{Bool, true, false, not, _&&_, _||_, cond}
 use mathlib.Core.List.{List, [], _∷_}
-use mathlib.Core.Logic.{_⊎_, ⊎-elim}
-use lib.ListN.{length, getD, set, replicate, length-replicate, getD-replicate, length-set, List·getD-eq-default}
+use mathlib.Core.Logic.{⊎-elim}
+use lib.ListN.{length, getD, set, replicate, length-set}
 use lib.Seq.{getD-set-same, getD-set-other}
 use lib.Dec.{leb, ltb, eqb}
-use borrow.Author.Tests.{leb-true, le-leb, lt-leb, le-ltb, lt-ltb, eq-eqb, ne-eqb, eqb-true, eqb-false}
-use Rattle.record.proofs.Choice.{and-left, and-right, both-ways, below-or-not}
+use borrow.Author.Tests.{leb-true, le-leb, le-ltb, lt-ltb, eq-eqb, ne-eqb, eqb-true, eqb-false}
+use Rattle.record.proofs.Choice.{and-left, and-right, below-or-not}
 use Rattle.ring.specs.Samples.{Sample, stepsTo, isTaken, takenAfter, newestOf, Telling, sampleOf, blank, notTold, hourBefore, telling, AllSequences}
 use Rattle.ring.specs.Kept.{emptyRing, slotOf, takes, hoursOn, blanked, withSample, taking, slotHour, hourIn, ringAfter}
 use Rattle.ring.specs.Claims.{isNone, TellsOf, RingTells}

@@ -4,15 +4,14 @@ use mathlib.Core.Path.{_≡_, refl, sym, ap, subst, _∙_}
 use mathlib.Core.Bool.{Bool, cond}
 use mathlib.Core.List.{List, [], _∷_}
 use lib.Dec.{eqb}
-use Rattle.ring.specs.Samples.{Sample, Telling, accepted, newestOf, telling, AllSequences}
+use Rattle.ring.specs.Samples.{Sample, accepted}
 use Rattle.ring.specs.Kept.{emptyRing, ringAfter, hourIn, heightsOf}
-use Rattle.ring.specs.Claims.{isNone, TellsOf}
+use Rattle.ring.specs.Claims.{TellsOf}
 use Rattle.ring.specs.declared.Ring.{Ring}
 use Rattle.ring.proofs.Tells.{ring-tells}
 use Rattle.wear.specs.Font.{digitsOf}
-use Rattle.wear.specs.Strip.{Strip, stripWith, digitsIn}
+use Rattle.wear.specs.Strip.{stripWith, digitsIn}
 use Rattle.wear.specs.Claims.{SameStrip}
-use Rattle.wear.specs.declared.Ask.{Ask}
 
 same-heights : (r q : Ring) → ((age : ℕ) → hourIn r age ≡ hourIn q age) → (n : ℕ) → heightsOf r n ≡ heightsOf q n
 unfolding heightsOf

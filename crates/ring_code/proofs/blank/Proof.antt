@@ -7,9 +7,6 @@ use Rattle.ring.specs.Kept.{blanked}
 use Rattle.ring.proofs.Stored.{blanked-none, blank-turn}
 use Rattle.ring_code.proofs.blank.Statement.{statement}
 use Rattle.ring_code.proofs.blank.Tie as tie
-use Rattle.ring_code.proofs.blank.Reads as reads
-use Rattle.ring_code.proofs.blank.Lts as lts
-use Rattle.ring_code.proofs.slot_of.Reads as slot-of-reads
 
 abbrev Inv-loop : tie.InvT-loop
 Inv-loop cells₀ from n hours k₀ cells k = (k ≤ hours) × ((length cells ≡ length cells₀) × (cells ≡ blanked from cells₀ n k))
@@ -17,43 +14,33 @@ Inv-loop cells₀ from n hours k₀ cells k = (k ≤ hours) × ((length cells �
 abbrev μ-loop : tie.MeasureT-loop
 μ-loop cells₀ from n hours k₀ cells k = hours - k
 
--- src/lib.rt:64:5
 loop-holds : tie.Need-loop-holds Inv-loop μ-loop
 loop-holds c = (omega arith, (refl, blanked-none _ _ _))
 
--- src/lib.rt:65:9
 add-k : tie.Need-add-k Inv-loop μ-loop
 add-k c = search needs
 
--- src/lib.rt:66:13
 slot-of-requires : tie.Need-slot-of-requires Inv-loop μ-loop
 slot-of-requires c κs = search needs
 
--- src/lib.rt:67:15
 add-cells : tie.Need-add-cells Inv-loop μ-loop
 add-cells c = search needs
 
--- src/lib.rt:67:9
 mul-cells : tie.Need-mul-cells Inv-loop μ-loop
 mul-cells c = search needs
 
--- src/lib.rt:67:9
 slice-write-cells : tie.Need-slice-write-cells Inv-loop μ-loop
 slice-write-cells c = search needs
 
--- src/lib.rt:64:5
 loop-less : tie.Need-loop-less Inv-loop μ-loop
 loop-less c = search needs
 
--- src/lib.rt:64:5
 loop-again : tie.Need-loop-again Inv-loop μ-loop
 loop-again c = let l = c .before .before .loop in (omega arith, (simp length-set (l .inv .1 .0), blank-turn _ _ _ _ _ _ (l .inv .1 .1) (c .slot-of .ensures)))
 
--- src/lib.rt:58:1
 same-length : tie.Need-same-length Inv-loop μ-loop
 same-length c = c .before .loop .inv .1 .0
 
--- src/lib.rt:58:1
 returns : tie.Need-returns Inv-loop μ-loop
 returns c = let a = c .before .before .before .args in let e : c .before .loop .k ≡ a .hours = omega arith in c .before .loop .inv .1 .1 ∙ ap (blanked (a .from) (a .cells .now) (a .n)) e
 

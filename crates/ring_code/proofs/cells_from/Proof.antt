@@ -1,14 +1,12 @@
 use borrow.Author.Needs.{needs}
 use native.Mathlib.Omega.{arith}
-use mathlib.Core.Path.{_≡_, refl, ap, sym, _∙_}
+use mathlib.Core.Path.{_≡_, refl, sym, _∙_}
 use Prim.Native.Nat.{_+_, _-_, _≤_}
 use lib.ListN.{length, take, drop, length-set}
 use lib.Seq.{take-all}
 use Rattle.ring.proofs.Stored.{part-turn}
 use Rattle.ring_code.proofs.cells_from.Statement.{statement}
 use Rattle.ring_code.proofs.cells_from.Tie as tie
-use Rattle.ring_code.proofs.cells_from.Reads as reads
-use Rattle.ring_code.proofs.cells_from.Lts as lts
 
 abbrev Inv-loop : tie.InvT-loop
 Inv-loop cells from all part₀ i₀ part i = (from + 512 ≤ length cells) × ((i ≤ 512) × ((length part ≡ 512) × (take i part ≡ take i (drop from cells))))
@@ -16,43 +14,33 @@ Inv-loop cells from all part₀ i₀ part i = (from + 512 ≤ length cells) × (
 abbrev μ-loop : tie.MeasureT-loop
 μ-loop cells from all part₀ i₀ part i = 512 - i
 
--- src/lib.rt:205:5
 loop-holds : tie.Need-loop-holds Inv-loop μ-loop
 loop-holds c = (search needs, (omega arith, (refl, refl)))
 
--- src/lib.rt:206:23
 add-part : tie.Need-add-part Inv-loop μ-loop
 add-part c = search needs
 
--- src/lib.rt:206:19
 mul-part : tie.Need-mul-part Inv-loop μ-loop
 mul-part c = search needs
 
--- src/lib.rt:206:19
 shared-slice-read-part : tie.Need-shared-slice-read-part Inv-loop μ-loop
 shared-slice-read-part c = search needs
 
--- src/lib.rt:206:9
 mul-part-2 : tie.Need-mul-part-2 Inv-loop μ-loop
 mul-part-2 c = search needs
 
--- src/lib.rt:206:9
 array-write-part : tie.Need-array-write-part Inv-loop μ-loop
 array-write-part c = search needs
 
--- src/lib.rt:207:9
 add-i : tie.Need-add-i Inv-loop μ-loop
 add-i c = search needs
 
--- src/lib.rt:205:5
 loop-less : tie.Need-loop-less Inv-loop μ-loop
 loop-less c = search needs
 
--- src/lib.rt:205:5
 loop-again : tie.Need-loop-again Inv-loop μ-loop
 loop-again c = let l = c .before .before .loop in let a = c .before .before .before .before .args in (omega arith, (omega arith, (simp length-set (l .inv .1 .1 .0), part-turn (a .cells .now) (l .part) (a .from) (l .i) (omega arith) (omega arith) (l .inv .1 .1 .1))))
 
--- src/lib.rt:198:1
 returns : tie.Need-returns Inv-loop μ-loop
 returns c = let l = c .before .loop in let e : l .i ≡ 512 = omega arith in sym (take-all 512 (l .part) (omega arith)) ∙ (rw e at (l .inv .1 .1 .1))
 

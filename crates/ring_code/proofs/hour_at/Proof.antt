@@ -1,45 +1,32 @@
-use native.Mathlib.Omega.{arith}
 use Rattle.ring.proofs.Told.{refuses, answers}
 use Rattle.ring.specs.Kept.{hourOf, slotHour}
-use mathlib.Core.Path.{_∙_, ap, _≡_}
+use mathlib.Core.Path.{_∙_, ap}
 use lib.ListN.{getD}
 use borrow.Author.Needs.{needs}
 use Rattle.ring_code.proofs.hour_at.Statement.{statement}
 use Rattle.ring_code.proofs.hour_at.Tie as tie
-use Rattle.ring_code.proofs.hour_at.Reads as reads
-use Rattle.ring_code.proofs.hour_at.Lts as lts
-use Rattle.ring_code.proofs.slot_answer.Reads as slot-answer-reads
-use Rattle.ring_code.proofs.slot_of.Reads as slot-of-reads
 
--- src/lib.rt:140:9
 returns : tie.Need-returns
 returns c = refuses _ _ (c .if1 .taken)
 
--- src/lib.rt:142:9
 slot-of-requires : tie.Need-slot-of-requires
 slot-of-requires c κs = search needs
 
--- src/lib.rt:143:40
 mul-slot-answer : tie.Need-mul-slot-answer
 mul-slot-answer c = search needs
 
--- src/lib.rt:143:40
 element-copy-out-slot-answer : tie.Need-element-copy-out-slot-answer
 element-copy-out-slot-answer c = search needs
 
--- src/lib.rt:143:57
 mul-slot-answer-2 : tie.Need-mul-slot-answer-2
 mul-slot-answer-2 c = search needs
 
--- src/lib.rt:143:57
 element-copy-out-slot-answer-2 : tie.Need-element-copy-out-slot-answer-2
 element-copy-out-slot-answer-2 c = search needs
 
--- src/lib.rt:143:5
 slot-answer-requires : tie.Need-slot-answer-requires
 slot-answer-requires c κs = search needs
 
--- src/lib.rt:135:1
 returns-2 : tie.Need-returns-2
 returns-2 c = let r = c .before .before .before .before .before .args .t1 in let a = c .before .before .before .before .before .args .age in answers r a _ (c .before .before .before .before .if1 .left) (c .slot-answer .ensures ∙ ap (λ i. hourOf (slotHour (r .any) (r .newest) (getD (r .numbers) i 0) (getD (r .heights) i 0) a)) (c .before .before .before .slot-of .ensures))
 

@@ -3,56 +3,40 @@ use Rattle.ring.proofs.Told.{refuses, answers-in}
 use borrow.Author.Needs.{needs}
 use Rattle.ring_code.proofs.hour_in.Statement.{statement}
 use Rattle.ring_code.proofs.hour_in.Tie as tie
-use Rattle.ring_code.proofs.hour_in.Reads as reads
-use Rattle.ring_code.proofs.hour_in.Lts as lts
-use Rattle.ring_code.proofs.slot_answer.Reads as slot-answer-reads
-use Rattle.ring_code.proofs.slot_of.Reads as slot-of-reads
 
--- src/lib.rt:152:9
 returns : tie.Need-returns
 returns c = refuses _ _ (c .if1 .taken)
 
--- src/lib.rt:154:18
 element-copy-out-newest : tie.Need-element-copy-out-newest
 element-copy-out-newest c = search needs
 
--- src/lib.rt:155:9
 slot-of-requires : tie.Need-slot-of-requires
 slot-of-requires c κs = search needs
 
--- src/lib.rt:156:17
 element-copy-out-slot-answer : tie.Need-element-copy-out-slot-answer
 element-copy-out-slot-answer c = search needs
 
--- src/lib.rt:156:41
 add-slot-answer : tie.Need-add-slot-answer
 add-slot-answer c = search needs
 
--- src/lib.rt:156:35
 mul-slot-answer : tie.Need-mul-slot-answer
 mul-slot-answer c = search needs
 
--- src/lib.rt:156:35
 element-copy-out-slot-answer-2 : tie.Need-element-copy-out-slot-answer-2
 element-copy-out-slot-answer-2 c = search needs
 
--- src/lib.rt:156:55
 add-slot-answer-2 : tie.Need-add-slot-answer-2
 add-slot-answer-2 c = search needs
 
--- src/lib.rt:156:49
 mul-slot-answer-2 : tie.Need-mul-slot-answer-2
 mul-slot-answer-2 c = search needs
 
--- src/lib.rt:156:49
 element-copy-out-slot-answer-3 : tie.Need-element-copy-out-slot-answer-3
 element-copy-out-slot-answer-3 c = search needs
 
--- src/lib.rt:156:5
 slot-answer-requires : tie.Need-slot-answer-requires
 slot-answer-requires c κs = search needs
 
--- src/lib.rt:147:1
 returns-2 : tie.Need-returns-2
 returns-2 c = answers-in (c .before .before .before .before .before .before .before .args .cells .now) (c .before .before .before .before .before .before .before .args .age) (c .before .before .before .before .slot-of .result) (c .slot-answer .result) (c .before .before .before .before .before .before .if1 .left) (c .before .before .before .before .slot-of .ensures) (omega (arith, c .before .before .before .before .slot-of .ensures)) (c .slot-answer .ensures)
 

@@ -5,24 +5,17 @@ use mathlib.Core.Path.{refl}
 use borrow.Author.Needs.{needs}
 use Rattle.ring_code.proofs.hours_on.Statement.{statement}
 use Rattle.ring_code.proofs.hours_on.Tie as tie
-use Rattle.ring_code.proofs.hours_on.Reads as reads
-use Rattle.ring_code.proofs.hours_on.Lts as lts
-use Rattle.ring_code.proofs.steps_to.Reads as steps-to-reads
 
--- src/lib.rt:52:9
 returns : tie.Need-returns
 unfolding hoursOn
 returns c = yes _ (eq-eqb _ _ (c .if1 .taken)) refl
 
--- src/lib.rt:54:5
 steps-to-requires : tie.Need-steps-to-requires
 steps-to-requires c κs = search needs
 
--- src/lib.rt:54:5
 cast-result : tie.Need-cast-result
 cast-result c = search needs
 
--- src/lib.rt:48:1
 returns-2 : tie.Need-returns-2
 unfolding hoursOn
 returns-2 c = no _ (ne-eqb _ _ (c .before .if1 .left)) (c .steps-to .ensures)

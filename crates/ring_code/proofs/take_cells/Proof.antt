@@ -1,7 +1,7 @@
 use native.Mathlib.Omega.{arith}
-use mathlib.Core.Path.{_≡_, sym, ap, _∙_}
+use mathlib.Core.Path.{_≡_, ap, _∙_}
 use mathlib.Core.Bool.{true}
-use Prim.Native.Nat.{_≤_, _<_}
+use Prim.Native.Nat.{_≤_}
 use lib.ListN.{length, getD, length-set}
 use borrow.Author.Tests.{not-true, not-false}
 use Rattle.record.proofs.Choice.{tested}
@@ -10,12 +10,6 @@ use Rattle.ring.proofs.Stored.{taken-low, taken-hours, taken-number, refused-nu
 use borrow.Author.Needs.{needs}
 use Rattle.ring_code.proofs.take_cells.Statement.{statement}
 use Rattle.ring_code.proofs.take_cells.Tie as tie
-use Rattle.ring_code.proofs.take_cells.Reads as reads
-use Rattle.ring_code.proofs.take_cells.Lts as lts
-use Rattle.ring_code.proofs.blank.Reads as blank-reads
-use Rattle.ring_code.proofs.hours_on.Reads as hours-on-reads
-use Rattle.ring_code.proofs.slot_of.Reads as slot-of-reads
-use Rattle.ring_code.proofs.takes.Reads as takes-reads
 
 -- a sample that is not refused is taken
 took : (c : tie.Else1) → let s = c .before .before .before .before .before in takes (getD (s .args .cells .now) 0 0) (getD (s .args .cells .now) 1 0) (s .args .sequence) (s .args .height) ≡ true
@@ -30,83 +24,63 @@ low c = taken-low _ _ _ _ (took (c .before .before .before .before .before .befo
 kept : (c : tie.After-slot-of) → length (c .before .before .before .blank .last .0) ≡ 1026
 kept c = ap length (c .before .before .before .blank .ensures) ∙ length-blanked _ _ _ _ ∙ c .before .before .before .before .before .before .before .before .before .before .before .pre
 
--- src/lib.rt:102:15
 slice-read-any : tie.Need-slice-read-any
 slice-read-any c = search needs
 
--- src/lib.rt:103:18
 slice-read-newest : tie.Need-slice-read-newest
 slice-read-newest c = search needs
 
--- src/lib.rt:104:9
 takes-requires : tie.Need-takes-requires
 takes-requires c κs = search needs
 
--- src/lib.rt:105:9
 returns : tie.Need-returns
 returns c = let a = c .before .before .before .before .before .args in let t = tested (c .before .takes .ensures) (not-true _ (c .if1 .taken)) in (refused-number _ _ _ t, cells-refused (a .cells .now) (a .sequence) (a .height) (c .before .before .before .before .before .pre) t)
 
--- src/lib.rt:107:9
 hours-on-requires : tie.Need-hours-on-requires
 hours-on-requires c κs = search needs
 
--- src/lib.rt:108:33
 sub-blank : tie.Need-sub-blank
 sub-blank c = omega (arith, c .before .hours-on .ensures, on (c .before .before))
 
--- src/lib.rt:108:5
 blank-requires : tie.Need-blank-requires
 blank-requires c κs = (omega (arith, c .before .before .before .before .before .before .before .pre), omega (arith, c .before .hours-on .ensures, on (c .before .before)))
 
--- src/lib.rt:109:9
 slot-of-requires : tie.Need-slot-of-requires
 slot-of-requires c κs = search needs
 
--- src/lib.rt:110:5
 slice-write-cells : tie.Need-slice-write-cells
 slice-write-cells c = search needs
 
--- src/lib.rt:111:5
 slice-write-cells-2 : tie.Need-slice-write-cells-2
 slice-write-cells-2 c = simp length-set (omega (arith, kept c))
 
--- src/lib.rt:112:11
 add-cells : tie.Need-add-cells
 add-cells c = search needs
 
--- src/lib.rt:112:5
 mul-cells : tie.Need-mul-cells
 mul-cells c = search needs
 
--- src/lib.rt:112:5
 slice-write-cells-3 : tie.Need-slice-write-cells-3
 slice-write-cells-3 c = simp length-set (omega (arith, kept c, c .slot-of .ensures))
 
--- src/lib.rt:113:24
 add-cells-2 : tie.Need-add-cells-2
 add-cells-2 c = omega (arith, low c)
 
--- src/lib.rt:113:23
 cast-cells : tie.Need-cast-cells
 cast-cells c = omega (arith, low c)
 
--- src/lib.rt:113:11
 add-cells-3 : tie.Need-add-cells-3
 add-cells-3 c = search needs
 
--- src/lib.rt:113:5
 mul-cells-2 : tie.Need-mul-cells-2
 mul-cells-2 c = search needs
 
--- src/lib.rt:113:5
 slice-write-cells-4 : tie.Need-slice-write-cells-4
 slice-write-cells-4 c = simp length-set (omega (arith, kept c, c .slot-of .ensures))
 
--- src/lib.rt:97:1
 same-length : tie.Need-same-length
 same-length c = search needs
 
--- src/lib.rt:97:1
 returns-2 : tie.Need-returns-2
 returns-2 c = let a = c .before .before .before .before .before .before .before .before .before .before .before .args in let t = took (c .before .before .before .before .before .before) in (taken-number _ _ _ t, cells-taken (a .cells .now) _ (a .sequence) (a .height) _ (c .slot-of .result) (c .before .before .before .before .before .before .before .before .before .before .before .pre) t (c .before .before .before .before .before .hours-on .ensures) (c .slot-of .ensures) (omega (arith, c .slot-of .ensures)) (c .before .before .before .blank .ensures))
 

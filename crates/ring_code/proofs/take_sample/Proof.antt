@@ -1,7 +1,7 @@
 use native.Mathlib.Omega.{arith}
-use mathlib.Core.Path.{_≡_, sym, ap, _∙_}
+use mathlib.Core.Path.{_≡_, sym, _∙_}
 use mathlib.Core.Bool.{true}
-use Prim.Native.Nat.{_≤_, _<_}
+use Prim.Native.Nat.{_≤_}
 use lib.ListN.{length}
 use borrow.Author.Tests.{not-true, not-false}
 use Rattle.record.proofs.Choice.{tested}
@@ -10,12 +10,6 @@ use Rattle.ring.proofs.Stored.{taken-low, taken-hours, sample-refused, sample-t
 use borrow.Author.Needs.{needs}
 use Rattle.ring_code.proofs.take_sample.Statement.{statement}
 use Rattle.ring_code.proofs.take_sample.Tie as tie
-use Rattle.ring_code.proofs.take_sample.Reads as reads
-use Rattle.ring_code.proofs.take_sample.Lts as lts
-use Rattle.ring_code.proofs.blank.Reads as blank-reads
-use Rattle.ring_code.proofs.hours_on.Reads as hours-on-reads
-use Rattle.ring_code.proofs.slot_of.Reads as slot-of-reads
-use Rattle.ring_code.proofs.takes.Reads as takes-reads
 
 -- the heights are 512
 many : (c : tie.Start) → length (c .args .ring .heights) ≡ 512
@@ -31,59 +25,45 @@ on c = taken-hours _ _ _ _ (took c)
 low : (c : tie.After-slot-of) → c .before .before .before .before .before .before .before .before .before .args .height ≤ 100
 low c = taken-low _ _ _ _ (took (c .before .before .before .before .before .before .before))
 
--- src/lib.rt:75:9
 takes-requires : tie.Need-takes-requires
 takes-requires c κs = search needs
 
--- src/lib.rt:76:9
 returns : tie.Need-returns
 returns c = sample-refused _ _ _ (tested (c .before .takes .ensures) (not-true _ (c .if1 .taken)))
 
--- src/lib.rt:78:9
 hours-on-requires : tie.Need-hours-on-requires
 hours-on-requires c κs = search needs
 
--- src/lib.rt:81:11
 slice-aggregate-blank : tie.Need-slice-aggregate-blank
 slice-aggregate-blank c = search needs
 
--- src/lib.rt:81:38
 sub-blank : tie.Need-sub-blank
 sub-blank c = omega (arith, c .before .before .before .hours-on .ensures, on (c .before .before .before .before))
 
--- src/lib.rt:81:5
 blank-requires : tie.Need-blank-requires
 blank-requires c κs = (omega (arith, many (c .before .before .before .before .before .before)), omega (arith, c .before .before .before .hours-on .ensures, on (c .before .before .before .before)))
 
--- src/lib.rt:82:9
 slot-of-requires : tie.Need-slot-of-requires
 slot-of-requires c κs = search needs
 
--- src/lib.rt:83:5
 mul-numbers : tie.Need-mul-numbers
 mul-numbers c = search needs
 
--- src/lib.rt:83:5
 array-write-numbers : tie.Need-array-write-numbers
 array-write-numbers c = search needs
 
--- src/lib.rt:84:20
 add-heights : tie.Need-add-heights
 add-heights c = omega (arith, low c)
 
--- src/lib.rt:84:19
 cast-heights : tie.Need-cast-heights
 cast-heights c = omega (arith, low c)
 
--- src/lib.rt:84:5
 mul-heights : tie.Need-mul-heights
 mul-heights c = search needs
 
--- src/lib.rt:84:5
 array-write-heights : tie.Need-array-write-heights
 array-write-heights c = search needs
 
--- src/lib.rt:72:1
 returns-2 : tie.Need-returns-2
 returns-2 c = let a = c .before .before .before .before .before .before .before .before .before .args in sample-taken (a .ring) _ (a .sequence) (a .height) _ (c .slot-of .result) (took (c .before .before .before .before .before .before .before)) (c .before .before .before .before .before .before .hours-on .ensures) (c .slot-of .ensures) (c .before .before .blank .ensures)
 
