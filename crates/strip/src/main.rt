@@ -5,7 +5,7 @@
 // standard output stays empty.
 //
 // SCREEN: a screen record, of depth 8 or 16, upright or turned. SAMPLES: a line for each sample, sequence number and height in decimal with
-// spaces between them, at most 1,048,576 bytes; a line whose sample is refused, or that has none, is said on standard error, and left out.
+// spaces between them, at most 524,288 bytes; a line whose sample is refused, or that has none, is said on standard error, and left out.
 // HOURS: how many, 1 to 24. COLUMN: a column's width in pixels, 1 to 16. X, Y: the strip's upper left corner. BAR, BACKGROUND: colours.
 // SITE: a font of the site, 8 bytes for each digit from 0 on; for digits that it has not, and without it, our factory font is used.
 ghost use mathlib.Core.Path.{_≡_};
@@ -34,17 +34,17 @@ fn short_of(a: Number) -> Short
 }
 
 // Room for samples, and one byte more, so that a longer file is seen.
-fn sample_room() -> [u8; 1048577]
-    ensures { λ r. ⌜ r ≡ replicate 1048577 0 ⌝ }
-    ensures { λ r. ⌜ 1048577 ≡ length r ⌝ }
+fn sample_room() -> [u8; 524289]
+    ensures { λ r. ⌜ r ≡ replicate 524289 0 ⌝ }
+    ensures { λ r. ⌜ 524289 ≡ length r ⌝ }
 {
-    [0; 1048577]
+    [0; 524289]
 }
 
 // Takes the samples, and shows the strip with a site font on a memory of zeros.
 fn run_with(a: Ask, site: &[u8], screen: &[u8], samples: &[u8]) {
     let mut memory = files::memory();
-    let ring = strip_show::take_lines(samples);
+    let ring = strip_take::take_lines(samples);
     strip_show::show_strip(ring, a, site, screen, &mut memory[..262144]);
 }
 
@@ -77,8 +77,8 @@ fn run_for(a: Ask) {
     }
     let ns = s.n;
     let nt = t.n;
-    if 1048576 < nt {
-        files::say(b"samples", b"more than 1048576 bytes");
+    if 524288 < nt {
+        files::say(b"samples", b"more than 524288 bytes");
         return;
     }
     run_on(a, &screen[..ns], &samples[..nt]);
