@@ -120,10 +120,10 @@ write('part.screen', part)
 write('part-90.screen', screen(16, 1, HEIGHT, WIDTH, **half))
 write('older.screen', record(4, 1, (320, 240), (0, 0x9600), (64, 80), (120, 160)))   # 001's example 6, for the S1D13706
 
-# 26 hours of samples: five hours without one, the numbers coming round past 65,535; and four lines that are left out
+# 29 hours of samples: five hours without one, the numbers coming round past 65,535; and four lines that are left out
 STRIP = 208, 128
 HOURLY = {65520: 20, 65521: 35, 65522: 70, 65523: 85, 65524: 100, 65525: 92, 65526: 64, 65527: 40, 65533: 30, 65534: 55, 65535: 78,
-          0: 90, 1: 96, 2: 100, 3: 88, 4: 71, 5: 0, 6: 12, 7: 47, 8: 66, 9: 83}
+          0: 90, 1: 96, 2: 100, 3: 88, 4: 71, 5: 0, 6: 12, 7: 47, 8: 66, 9: 83, 10: 91, 11: 74, 12: 58}
 lines = [f'{n} {height}' for n, height in HOURLY.items()]
 lines[4:4] = ['65523 10']                                          # the same hour again: refused
 lines[12:12] = ['0 101']                                           # a height above 100: refused
