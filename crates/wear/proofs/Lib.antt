@@ -2,3 +2,4 @@ pub mod Lists
 pub mod Commands
 pub mod Fonts
 pub mod Words
+pub mod Strips
