@@ -57,7 +57,7 @@ font = 0x81 ∷ 0x40 ∷ 0 ∷ 0 ∷ 0 ∷ 0 ∷ 0 ∷ 0xFF ∷ replicate 72 0
 
 -- the columns and then the number
 pub strip-cases : (stripCommands (stripWith three (0 ∷ 1 ∷ []) (4 ∷ 2 ∷ []) [] font)
-        ≡ command 0 0 10 20 3 100 9 ∷ command 0 0 13 20 3 100 9 ∷ command 0 0 13 119 3 1 5 ∷ writeAt 10 ∷ writeAt 18 ∷ [])
+    ≡ command 0 0 10 20 3 100 9 ∷ command 0 0 13 20 3 100 9 ∷ command 0 0 13 119 3 1 5 ∷ writeAt 10 ∷ writeAt 18 ∷ [])
     × (commandCount (0 ∷ 100 ∷ 37 ∷ []) ≡ 5)
     × (commandCount [] ≡ 0)
 unfolding column columns writes stripCommands commandCount
@@ -86,15 +86,15 @@ ring-cases = (refl, refl, refl)
 -- ---- the host words
 -- a glyph's at depth 8, two pixels a word with the left one low, and at depth 16
 pub word-cases : (glyphWords one (take 8 font)
-        ≡ (2309 ∷ 2313 ∷ 2313 ∷ 1289 ∷ 1289 ∷ 2313 ∷ 2313 ∷ 2313 ∷ []) ++ replicate 20 2313 ++ replicate 4 1285)
+    ≡ (2309 ∷ 2313 ∷ 2313 ∷ 1289 ∷ 1289 ∷ 2313 ∷ 2313 ∷ 2313 ∷ []) ++ replicate 20 2313 ++ replicate 4 1285)
     × (glyphWords (ask 1 16 10 20 3 500 9) (take 8 font)
-        ≡ (500 ∷ 9 ∷ 9 ∷ 9 ∷ 9 ∷ 9 ∷ 9 ∷ 500 ∷ 9 ∷ 500 ∷ 9 ∷ 9 ∷ 9 ∷ 9 ∷ 9 ∷ 9 ∷ []) ++ replicate 40 9 ++ replicate 8 500)
+    ≡ (500 ∷ 9 ∷ 9 ∷ 9 ∷ 9 ∷ 9 ∷ 9 ∷ 500 ∷ 9 ∷ 500 ∷ 9 ∷ 9 ∷ 9 ∷ 9 ∷ 9 ∷ 9 ∷ []) ++ replicate 40 9 ++ replicate 8 500)
 unfolding lineWords glyphBit glyphColour glyphWord glyphWords
 word-cases = (refl, refl)
 
 -- of digits, one behind the other: a 1, which this font leaves blank, and a 0; the site's 0 where it has one
 pub digit-cases : (stripWords (stripWith one (0 ∷ []) (1 ∷ 0 ∷ []) [] font)
-        ≡ replicate 32 2313 ++ (2309 ∷ 2313 ∷ 2313 ∷ 1289 ∷ 1289 ∷ 2313 ∷ 2313 ∷ 2313 ∷ []) ++ replicate 20 2313 ++ replicate 4 1285)
+    ≡ replicate 32 2313 ++ (2309 ∷ 2313 ∷ 2313 ∷ 1289 ∷ 1289 ∷ 2313 ∷ 2313 ∷ 2313 ∷ []) ++ replicate 20 2313 ++ replicate 4 1285)
     × (stripWords (stripWith one (0 ∷ []) (0 ∷ 1 ∷ []) (replicate 8 0xFF) font) ≡ replicate 32 1285 ++ replicate 32 2313)
 unfolding finding glyphOf lineWords glyphBit glyphColour glyphWord glyphWords digitWords
 digit-cases = (refl, refl)
@@ -184,7 +184,7 @@ room-cases = refl
 -- past the result they are kept, and whole where refused: three bytes more, two words more; a word too few
 pub buffer-cases : (drop 64 (listAfter (stripAt one (0 ∷ []) (0 ∷ [])) (replicate 64 1 ++ (7 ∷ 8 ∷ 9 ∷ [])) (replicate 32 1 ++ (7 ∷ 8 ∷ []))) ≡ 7 ∷ 8 ∷ 9 ∷ [])
     × (take 18 (listAfter (stripAt one (0 ∷ []) (0 ∷ [])) (replicate 64 1 ++ (7 ∷ 8 ∷ 9 ∷ [])) (replicate 32 1))
-        ≡ 0 ∷ 0 ∷ 0 ∷ 0 ∷ 10 ∷ 0 ∷ 20 ∷ 0 ∷ 3 ∷ 0 ∷ 100 ∷ 0 ∷ 0 ∷ 0 ∷ 0 ∷ 0 ∷ 9 ∷ 0 ∷ [])
+    ≡ 0 ∷ 0 ∷ 0 ∷ 0 ∷ 10 ∷ 0 ∷ 20 ∷ 0 ∷ 3 ∷ 0 ∷ 100 ∷ 0 ∷ 0 ∷ 0 ∷ 0 ∷ 0 ∷ 9 ∷ 0 ∷ [])
     × (drop 28 (wordsAfter (stripAt one (0 ∷ []) (0 ∷ [])) (replicate 64 1) (replicate 32 1 ++ (7 ∷ 8 ∷ []))) ≡ 1285 ∷ 1285 ∷ 1285 ∷ 1285 ∷ 7 ∷ 8 ∷ [])
     × (listAfter (stripAt one (0 ∷ []) (0 ∷ [])) (replicate 64 1) (replicate 31 1) ≡ replicate 64 1)
     × (wordsAfter (stripAt one (0 ∷ []) (0 ∷ [])) (replicate 63 1) (replicate 32 1) ≡ replicate 32 1)

@@ -57,8 +57,8 @@ fn column_reach(a: Ask, c: u32, height: u32) -> bool
     requires { ⌜ (c < 24) × (height ≤ 100) ⌝ }
     ensures { λ r. ⌜ r ≡ allInReach (column a c height) ⌝ }
 {
-    let x = a.x as u32 + c * a.column;
-    (x <= 65535) & ((height == 0) | (a.y as u32 + 100 - height <= 65535))
+    let left = a.x as u32 + c * a.column;
+    (left <= 65535) & ((height == 0) | (a.y as u32 + 100 - height <= 65535))
 }
 
 // Whether no x or y of the columns' commands is past 65,535.
