@@ -143,16 +143,17 @@ fn put_column(list: &mut [u8], at: usize, a: Ask, c: u32, height: u32) -> usize
     ensures { λ r. ⌜ r ≡ at + length (listBytes (column a c height)) ⌝ }
     ensures { λ _. ⌜ now (list .exit) ≡ sets (now (list .entry)) at (listBytes (column a c height)) ⌝ }
 {
-    let x = a.x as u32 + c * a.column;
+    let width = a.column;
+    let x = a.x as u32 + c * width;
     let y = a.y as u32;
-    put_command(list, at, fill_at(x, y, a.column, 100, a.background));
+    put_command(list, at, fill_at(x, y, width, 100, a.background));
     if height == 0 {
         return at + 32;
     }
     put_command(
         list,
         at + 32,
-        fill_at(x, y + 100 - height, a.column, height, a.bar),
+        fill_at(x, y + 100 - height, width, height, a.bar),
     );
     at + 64
 }
