@@ -93,13 +93,13 @@ command-numbers c h = λ t.
     ++ (pair-bytes (c .width) (c .height) (h .width) (h .height) t ++ pair-bytes (c .sx) (c .sy) (h .sx) (h .sy) t)))
     ++ (half-bytes (c .colour) (h .colour) t ++ (fourBytes 0 ++ (fourBytes 0 ++ fourBytes 0)))
 
-pub command-stored : (l : List ℕ) (at : ℕ) (c : Command) → Storable c → {l1 l2 : List ℕ}
-    → l1 ≡ sets l at (sixteen (c .operation + 256 * c .surface + 65536 * c .raster) (c .x + 65536 * c .y) (c .width + 65536 * c .height) (c .sx + 65536 * c .sy))
-    → l2 ≡ sets l1 (at + 16) (sixteen (c .colour) 0 0 0) → l2 ≡ sets l at (commandBytes c)
-command-stored l at c h e f =
+pub command-stored : (l : List ℕ) (at : ℕ) (c : Command) → Storable c → (h p q r : ℕ) → h ≡ c .operation + 256 * c .surface + 65536 * c .raster
+    → p ≡ c .x + 65536 * c .y → q ≡ c .width + 65536 * c .height → r ≡ c .sx + 65536 * c .sy
+    → {l1 l2 : List ℕ} → l1 ≡ sets l at (sixteen h p q r) → l2 ≡ sets l1 (at + 16) (sixteen (c .colour) 0 0 0) → l2 ≡ sets l at (commandBytes c)
+command-stored l at c s h p q r i j k m e f =
     f ∙ ap (λ (x : List ℕ). sets x (at + 16) (sixteen (c .colour) 0 0 0)) e
-    ∙ sym (sets-append l at (sixteen (c .operation + 256 * c .surface + 65536 * c .raster) (c .x + 65536 * c .y) (c .width + 65536 * c .height) (c .sx + 65536 * c .sy)) (sixteen (c .colour) 0 0 0))
-    ∙ ap (λ (b : List ℕ). sets l at b) (command-numbers c h)
+    ∙ sym (sets-append l at (sixteen h p q r) (sixteen (c .colour) 0 0 0))
+    ∙ ap (λ (b : List ℕ). sets l at b) ((λ t. sixteen (i t) (j t) (k t) (m t) ++ sixteen (c .colour) 0 0 0) ∙ command-numbers c s)
 
 -- ---- what is in reach
 -- how far right a column starts, in the columns' limits

@@ -4,3 +4,4 @@ pub mod Glyphs
 pub mod Fonts
 pub mod Words
 pub mod Same
+pub mod Strips

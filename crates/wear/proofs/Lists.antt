@@ -23,7 +23,7 @@ use Rattle.ring.specs.Kept.{heightsOf}
 use Rattle.ring.specs.declared.Ring.{Ring}
 use Rattle.ring.proofs.Heights.{heights-count, heights-low}
 use Rattle.wear.specs.Font.{digitsOf}
-use Rattle.wear.specs.Strip.{digitsIn, Strip, stripWith, stripFor, column, columns, writes, stripCommands, listBytes, stripList, digitWords, stripWords, allInReach, askRows, stripRows, Stripping, stripping, listAfter, wordsAfter, strippingOf, answerOf}
+use Rattle.wear.specs.Strip.{digitsIn, Strip, stripWith, stripFor, column, columns, writes, stripCommands, listBytes, stripList, stripWords, allInReach, askRows, stripRows, Stripping, stripping, listAfter, wordsAfter, strippingOf, answerOf}
 use Rattle.wear.specs.Limits.{Checked, Drawable, commandCount}
 use Rattle.wear.specs.declared.Ask.{Ask}
 use Rattle.wear.specs.declared.StripAnswer.{StripAnswer}
@@ -153,6 +153,14 @@ eight-or-sixteen d e h =
     or-elim (eqb d 4) _ e4 (λ p. absurd (omega (arith, eqb-true d 4 p))) (λ e8.
     or-elim (eqb d 8) _ e8 (λ p. inl (eqb-true d 8 p)) (λ p. inr (eqb-true d 16 p)))))
 
+or-left : (a b : Bool) → (a || b) ≡ false → a ≡ false
+or-left true b h = h
+or-left false b h = refl
+
+or-right : (a b : Bool) → (a || b) ≡ false → b ≡ false
+or-right true b h = absurd (true≢false h)
+or-right false b h = h
+
 -- colours at depth 8
 no-fault : (d b g : Bool) → (d && (b || g)) ≡ false → d ≡ true → (b ≡ false) × (g ≡ false)
 no-fault true true g e h = absurd (true≢false e)
@@ -279,9 +287,6 @@ pub words-most : (n depth w : ℕ) → n ≤ 5 → w ≡ 8 * lineWords depth 8 �
 unfolding lineWords
 words-most n depth w h e = mul-le-mul {n₂ = 5} {m₂ = 64} h (omega (arith, e, both-ways (λ (k : ℕ). k ≤ 8) (eqb depth 8) 4 8 (λ q. omega arith) (λ q. omega arith)))
 
-pub enough-words : (a : Ask) (site factory digits : List ℕ) (w room : ℕ) → w ≡ 8 * lineWords (a .depth) 8 → length digits * w ≤ room → length (digitWords a site factory digits) ≤ room
-enough-words a site factory digits w room e h = rw (digit-words-count a site factory digits, ← e) h
-
 -- ---- the strip of heights and digits, for an ask without a fault
 module _ (a : Ask) (heights digits site factory : List ℕ) where
   abbrev strip : Strip
@@ -316,41 +321,55 @@ module _ (a : Ask) (heights digits site factory : List ℕ) where
         second-part (askRows a (length factory)) _ (none (askRows a (length factory)) (asked-numbered a (length factory)) e)
         ∙ ap (λ (b : Bool). cond (not b) 27 (cond (ltb room (length (stripList strip)) || ltb wordRoom (length (stripWords strip))) 17 0)) (reach-append (columns a 0 heights) (writes a 0 digits))
 
-    pub columns-far : allInReach (columns a 0 heights) ≡ false → firstOf (stripRows strip room wordRoom) ≡ 27
-    columns-far p = rows-left ∙ (rw p)
+    module _ (bytes count w : ℕ) (b : bytes ≡ 32 * (commandCount heights + length digits)) (d : w ≡ 8 * lineWords (a .depth) 8) (k : count ≡ length digits * w) where
+      bytes-are : bytes ≡ length (stripList strip)
+      bytes-are = b ∙ sym strip-bytes
 
-    module _ (p : allInReach (columns a 0 heights) ≡ true) where
-      pub writes-far : allInReach (writes a 0 digits) ≡ false → firstOf (stripRows strip room wordRoom) ≡ 27
-      writes-far q = rows-left ∙ (rw (p, q))
+      words-are : count ≡ length (stripWords strip)
+      words-are = k ∙ ap (λ (x : ℕ). length digits * x) d ∙ sym (digit-words-count a site factory digits)
 
-      module _ (q : allInReach (writes a 0 digits) ≡ true) where
-        pub list-short : room < 32 * (commandCount heights + length digits) → firstOf (stripRows strip room wordRoom) ≡ 17
-        list-short h = rows-left ∙ (rw (p, q, lt-ltb room (length (stripList strip)) (omega (arith, h, strip-bytes))))
+      -- by what the two tests found
+      rows-found : firstOf (stripRows strip room wordRoom) ≡ cond (not (allInReach (columns a 0 heights) && allInReach (writes a 0 digits))) 27 (cond (ltb room bytes || ltb wordRoom count) 17 0)
+      rows-found = rows-left ∙ (λ t. cond (not (allInReach (columns a 0 heights) && allInReach (writes a 0 digits))) 27 (cond (ltb room (sym bytes-are t) || ltb wordRoom (sym words-are t)) 17 0))
 
-        module _ (h : 32 * (commandCount heights + length digits) ≤ room) where
-          fits : ltb room (length (stripList strip)) ≡ false
-          fits = le-ltb room (length (stripList strip)) (omega (arith, h, strip-bytes))
+      module _ (r s : Bool) (p : r ≡ allInReach (columns a 0 heights)) (q : s ≡ allInReach (writes a 0 digits)) where
+        rows-by : firstOf (stripRows strip room wordRoom) ≡ cond (not (r && s)) 27 (cond (ltb room bytes || ltb wordRoom count) 17 0)
+        rows-by = rows-found ∙ (λ t. cond (not (sym p t && sym q t)) 27 (cond (ltb room bytes || ltb wordRoom count) 17 0))
 
-          pub words-short : wordRoom < length digits * (8 * lineWords (a .depth) 8) → firstOf (stripRows strip room wordRoom) ≡ 17
-          words-short k = rows-left ∙ (rw (p, q, fits, lt-ltb wordRoom (length (stripWords strip)) (subst (λ (n : ℕ). wordRoom < n) (sym (digit-words-count a site factory digits)) k)))
+        pub strip-far : not (r && s) ≡ true → firstOf (stripRows strip room wordRoom) ≡ 27
+        strip-far e = rows-by ∙ (rw e)
 
-          pub strip-made : length digits * (8 * lineWords (a .depth) 8) ≤ wordRoom → firstOf (stripRows strip room wordRoom) ≡ 0
-          strip-made k = rows-left ∙ (rw (p, q, fits, le-ltb wordRoom (length (stripWords strip)) (subst (λ (n : ℕ). n ≤ wordRoom) (sym (digit-words-count a site factory digits)) k)))
+        pub strip-short : not (r && s) ≡ false → (ltb room bytes || ltb wordRoom count) ≡ true → firstOf (stripRows strip room wordRoom) ≡ 17
+        strip-short e f = rows-by ∙ (rw (e, f))
 
-          -- made, with all that was stored
-          pub whole-strip : (list words l1 l2 new : List ℕ) (at bytes count w : ℕ) → room ≡ length list → wordRoom ≡ length words
-              → bytes ≡ 32 * (commandCount heights + length digits) → w ≡ 8 * lineWords (a .depth) 8 → count ≡ length digits * w → count ≤ wordRoom
-              → l1 ≡ sets list 0 (listBytes (columns a 0 heights)) → at ≡ length (listBytes (columns a 0 heights)) → l2 ≡ sets l1 at (listBytes (writes a 0 digits)) → new ≡ sets words 0 (stripWords strip)
-              → (strippingOf (Made bytes count) ≡ stripping strip (length list) (length words)) × ((l2 ≡ listAfter strip list words) × (new ≡ wordsAfter strip list words))
-          whole-strip list words l1 l2 new at bytes count w r v b d k z f g i j =
-              let n : count ≡ length (stripWords strip) = k ∙ ap (λ (x : ℕ). length digits * x) d ∙ sym (digit-words-count a site factory digits) in
-              let m : firstOf (stripRows strip (length list) (length words)) ≡ 0 = (λ t. firstOf (stripRows strip (sym r t) (sym v t))) ∙ strip-made (subst (λ (x : ℕ). x ≤ wordRoom) (n ∙ digit-words-count a site factory digits) z) in (
-                made-numbers strip list words m bytes count (b ∙ sym strip-bytes) n,
-                (
-                  made-list strip list words m l2 (strip-stored list l1 l2 at f g i) (omega (arith, strip-bytes, h, r)),
-                  made-words strip list words m new j (omega (arith, n, z, v)),
-                ),
-              )
+        pub strip-made : not (r && s) ≡ false → (ltb room bytes || ltb wordRoom count) ≡ false → firstOf (stripRows strip room wordRoom) ≡ 0
+        strip-made e f = rows-by ∙ (rw (e, f))
+
+        -- both in reach
+        pub columns-near : not (r && s) ≡ false → allInReach (columns a 0 heights) ≡ true
+        columns-near e = sym p ∙ and-left r s (not-false (r && s) e)
+
+        pub writes-near : not (r && s) ≡ false → allInReach (writes a 0 digits) ≡ true
+        writes-near e = sym q ∙ and-right r s (not-false (r && s) e)
+
+      -- both have room
+      module _ (f : (ltb room bytes || ltb wordRoom count) ≡ false) where
+        pub list-room : length (stripList strip) ≤ room
+        list-room = subst (λ (n : ℕ). n ≤ room) bytes-are (ltb-false room bytes (or-left (ltb room bytes) (ltb wordRoom count) f))
+
+        pub word-room : length (stripWords strip) ≤ wordRoom
+        word-room = subst (λ (n : ℕ). n ≤ wordRoom) words-are (ltb-false wordRoom count (or-right (ltb room bytes) (ltb wordRoom count) f))
+
+  -- made, with all that was stored
+  pub whole-strip : (list words l1 l2 new : List ℕ) (at bytes count w : ℕ) → firstOf (stripRows strip (length list) (length words)) ≡ 0
+      → bytes ≡ 32 * (commandCount heights + length digits) → w ≡ 8 * lineWords (a .depth) 8 → count ≡ length digits * w
+      → length (stripList strip) ≤ length list → length (stripWords strip) ≤ length words
+      → l1 ≡ sets list 0 (listBytes (columns a 0 heights)) → at ≡ length (listBytes (columns a 0 heights)) → l2 ≡ sets l1 at (listBytes (writes a 0 digits)) → new ≡ sets words 0 (stripWords strip)
+      → (strippingOf (Made bytes count) ≡ stripping strip (length list) (length words)) × ((l2 ≡ listAfter strip list words) × (new ≡ wordsAfter strip list words))
+  whole-strip list words l1 l2 new at bytes count w m b d k h v f g i j = (
+    made-numbers strip list words m bytes count (b ∙ sym strip-bytes) (k ∙ ap (λ (x : ℕ). length digits * x) d ∙ sym (digit-words-count a site factory digits)),
+    (made-list strip list words m l2 (strip-stored list l1 l2 at f g i) h, made-words strip list words m new j v),
+  )
 
 -- a strip with an hour has a command
 pub some-bytes : (a : Ask) (heights digits site factory : List ℕ) → 1 ≤ length heights → 0 < length (stripList (stripWith a heights digits site factory))

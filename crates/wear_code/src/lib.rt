@@ -54,18 +54,14 @@ fn make_strip<'a>(
     ensures { λ r. ⌜ now (list .exit) ≡ listAfter (stripWith a (now (heights .entry)) (now (digits .entry)) (now (site .entry)) (now (factory .entry))) (now (list .entry)) (now (words .entry)) ⌝ }
     ensures { λ r. ⌜ now (words .exit) ≡ wordsAfter (stripWith a (now (heights .entry)) (now (digits .entry)) (now (site .entry)) (now (factory .entry))) (now (list .entry)) (now (words .entry)) ⌝ }
 {
-    if !wear_list::columns_reach(a, heights) {
-        return StripAnswer::Refused(27);
-    }
-    if !wear_list::writes_reach(a, digits) {
-        return StripAnswer::Refused(27);
-    }
+    let reach = wear_list::columns_reach(a, heights) & wear_list::writes_reach(a, digits);
     let bytes = 32 * (wear_list::column_commands(heights) + digits.len());
-    if list.len() < bytes {
-        return StripAnswer::Refused(17);
-    }
     let count = digits.len() * wear_glyph::words_per_glyph(a);
-    if words.len() < count {
+    let short = (list.len() < bytes) | (words.len() < count);
+    if !reach {
+        return StripAnswer::Refused(27);
+    }
+    if short {
         return StripAnswer::Refused(17);
     }
     let at = wear_list::put_columns(list, a, heights);

@@ -2,7 +2,7 @@
 ghost use mathlib.Core.Path.{_≡_};
 ghost use mathlib.Core.Bool.{true, cond};
 ghost use mathlib.Core.List.{_++_};
-ghost use Prim.Native.Nat.{_+_, _≤_, _<_};
+ghost use Prim.Native.Nat.{_+_, _*_, _≤_, _<_};
 ghost use lib.ListN.{length};
 ghost use lib.Seq.{sets};
 ghost use lib.Dec.{eqb};
@@ -24,16 +24,30 @@ fn put_four(list: &mut [u8], at: usize, a: u64, b: u64, c: u64, d: u64)
     record_code::put_number(list, at + 12, d);
 }
 
+// Two numbers of two bytes as one of four.
+fn pair(low: u16, high: u16) -> u64
+    ensures { λ r. ⌜ r ≡ low + 65536 * high ⌝ }
+{
+    low as u64 + 65536 * high as u64
+}
+
+// The first four bytes of a command as one number.
+fn head(operation: u8, surface: u8, raster: u8) -> u64
+    ensures { λ r. ⌜ r ≡ operation + 256 * surface + 65536 * raster ⌝ }
+{
+    operation as u64 + 256 * surface as u64 + 65536 * raster as u64
+}
+
 // Stores the 32 bytes of a command.
 fn put_command(list: &mut [u8], at: usize, c: Command)
     requires { ⌜ at + 32 ≤ length (now list) ⌝ }
     ensures { λ _. ⌜ now (list .exit) ≡ sets (now (list .entry)) at (commandBytes c) ⌝ }
 {
-    let head = c.operation as u64 + 256 * c.surface as u64 + 65536 * c.raster as u64;
-    let corner = c.x as u64 + 65536 * c.y as u64;
-    let size = c.width as u64 + 65536 * c.height as u64;
-    let source = c.sx as u64 + 65536 * c.sy as u64;
-    put_four(list, at, head, corner, size, source);
+    let first = head(c.operation, c.surface, c.raster);
+    let corner = pair(c.x, c.y);
+    let size = pair(c.width, c.height);
+    let source = pair(c.sx, c.sy);
+    put_four(list, at, first, corner, size, source);
     put_four(list, at + 16, c.colour as u64, 0, 0, 0);
 }
 
@@ -43,8 +57,8 @@ fn column_reach(a: Ask, c: u32, height: u32) -> bool
     requires { ⌜ (c < 24) × (height ≤ 100) ⌝ }
     ensures { λ r. ⌜ r ≡ allInReach (column a c height) ⌝ }
 {
-    let x = a.x as u32 + c * a.column;
-    (x <= 65535) & ((height == 0) | (a.y as u32 + 100 - height <= 65535))
+    let left = a.x as u32 + c * a.column;
+    (left <= 65535) & ((height == 0) | (a.y as u32 + 100 - height <= 65535))
 }
 
 // Whether no x or y of the columns' commands is past 65,535.
@@ -129,16 +143,17 @@ fn put_column(list: &mut [u8], at: usize, a: Ask, c: u32, height: u32) -> usize
     ensures { λ r. ⌜ r ≡ at + length (listBytes (column a c height)) ⌝ }
     ensures { λ _. ⌜ now (list .exit) ≡ sets (now (list .entry)) at (listBytes (column a c height)) ⌝ }
 {
-    let x = a.x as u32 + c * a.column;
+    let width = a.column;
+    let x = a.x as u32 + c * width;
     let y = a.y as u32;
-    put_command(list, at, fill_at(x, y, a.column, 100, a.background));
+    put_command(list, at, fill_at(x, y, width, 100, a.background));
     if height == 0 {
         return at + 32;
     }
     put_command(
         list,
         at + 32,
-        fill_at(x, y + 100 - height, a.column, height, a.bar),
+        fill_at(x, y + 100 - height, width, height, a.bar),
     );
     at + 64
 }

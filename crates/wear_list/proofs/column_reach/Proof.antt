@@ -4,14 +4,14 @@ use borrow.Author.Needs.{needs}
 use Rattle.wear_list.proofs.column_reach.Statement.{statement}
 use Rattle.wear_list.proofs.column_reach.Tie as tie
 
-cast-x : tie.Need-cast-x
-cast-x c = search needs
+cast-left : tie.Need-cast-left
+cast-left c = search needs
 
-mul-x : tie.Need-mul-x
-mul-x c = omega (arith, column-low (c .before .before .args .c) (c .before .before .args .a .column) (c .before .before .pre .1 .0) (c .before .before .pre .0 .column))
+mul-left : tie.Need-mul-left
+mul-left c = omega (arith, column-low (c .before .before .args .c) (c .before .before .args .a .column) (c .before .before .pre .1 .0) (c .before .before .pre .0 .column))
 
-add-x : tie.Need-add-x
-add-x c = omega (arith, column-low (c .before .before .args .c) (c .before .before .args .a .column) (c .before .before .pre .1 .0) (c .before .before .pre .0 .column))
+add-left : tie.Need-add-left
+add-left c = omega (arith, column-low (c .before .before .args .c) (c .before .before .args .a .column) (c .before .before .pre .1 .0) (c .before .before .pre .0 .column))
 
 cast-result : tie.Need-cast-result
 cast-result c = search needs
@@ -27,4 +27,4 @@ returns c = column-reached (c .before .before .before .args .a) (c .before .befo
 
 pub column-reach-spec : {M : Type 1} → statement M
 column-reach-spec =
-    tie.close (tie.spec cast-x mul-x add-x cast-result add-result sub-result returns)
+    tie.close (tie.spec cast-left mul-left add-left cast-result add-result sub-result returns)
