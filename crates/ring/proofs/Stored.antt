@@ -16,27 +16,10 @@ use Rattle.ring.specs.Kept.{slotOf, takes, hoursOn, blanked, withSample,
 use Rattle.ring.specs.declared.Ring.{Ring}
 use Rattle.ring.specs.declared.Taken.{Taken}
 
--- one hour more
-pub blanked-more : (from : ℕ) (numbers : List ℕ) (n k : ℕ) → blanked from numbers n (k + 1) ≡ set (blanked from numbers n k) (from + slotOf n (k + 1)) 0
-unfolding blanked
-blanked-more from numbers n k = rw (add-one k)
-
-pub blanked-none : (from : ℕ) (numbers : List ℕ) (n : ℕ) → numbers ≡ blanked from numbers n 0
-unfolding blanked
-blanked-none from numbers n = refl
-
 pub length-blanked : (from : ℕ) (numbers : List ℕ) (n k : ℕ) → length (blanked from numbers n k) ≡ length numbers
 unfolding blanked
 length-blanked from numbers n zero = refl
 length-blanked from numbers n (suc k) = length-set (blanked from numbers n k) (from + slotOf n (suc k)) 0 ∙ length-blanked from numbers n k
-
--- the hours made blank one after the other
-pub blank-turn : (from n k at : ℕ) (old cells : List ℕ) → cells ≡ blanked from old n k → at ≡ slotOf n (k + 1)
-    → set cells (from + at) 0 ≡ blanked from old n (k + 1)
-blank-turn from n k at old cells e a =
-    ap (λ (l : List ℕ). set l (from + at) 0) e
-    ∙ ap (λ (i : ℕ). set (blanked from old n k) (from + i) 0) a
-    ∙ sym (blanked-more from old n k)
 
 -- a store after a seam
 pub set-after : (p q : List ℕ) (i v : ℕ) → set (p ++ q) (length p + i) v ≡ p ++ set q i v

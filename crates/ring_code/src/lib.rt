@@ -1,8 +1,9 @@
 // The ring of wear samples: an empty one, taking a sample, and what it tells of an hour.
 ghost use mathlib.Core.Path.{_≡_};
 ghost use mathlib.Core.Bool.{true};
-ghost use Prim.Native.Nat.{_+_, _≤_};
-ghost use lib.ListN.{length, take, drop};
+ghost use Prim.Native.Nat.{_+_, _-_, _≤_};
+ghost use lib.ListN.{length, take, drop, replicate};
+ghost use lib.Seq.{sets};
 ghost use Rattle.ring.specs.Samples.{stepsTo};
 ghost use Rattle.ring.specs.Kept.{emptyRing, slotOf, takes as takesSample, hoursOn, blanked, taking, slotHour, hourIn, tellingOf, hourOf, heightsOf, ringIn, cellsOf};
 use ring::Hour;
@@ -54,18 +55,33 @@ fn hours_on(any: u16, newest: u16, sequence: u16) -> u32
     steps_to(newest, sequence) as u32
 }
 
+// Makes the numbers from one place up to another 0.
+fn zero(cells: &mut [u16], from: usize, to: usize)
+    requires { ⌜ from ≤ to ⌝ }
+    requires { ⌜ to ≤ length (now cells) ⌝ }
+    ensures { λ _. ⌜ now (cells .exit) ≡ sets (now (cells .entry)) from (replicate (to - from) 0) ⌝ }
+{
+    let mut i = from;
+    while i < to {
+        cells[i] = 0;
+        i += 1;
+    }
+}
+
 // Makes the hours before that of number n blank, so many of them, in numbers of which the heights are those from `from` on.
 fn blank(cells: &mut [u16], from: usize, n: u16, hours: u32)
     requires { ⌜ from + 512 ≤ length (now cells) ⌝ }
     requires { ⌜ hours ≤ 511 ⌝ }
     ensures { λ _. ⌜ now (cells .exit) ≡ blanked from (now (cells .entry)) n hours ⌝ }
 {
-    let mut k = 0;
-    while k < hours {
-        k += 1;
-        let at = slot_of(n, k);
-        cells[from + at] = 0;
+    let at = slot_of(n, 0);
+    let back = hours as usize;
+    if back <= at {
+        zero(cells, from + at - back, from + at);
+        return;
     }
+    zero(cells, from, from + at);
+    zero(cells, from + 512 - (back - at), from + 512);
 }
 
 // Takes a sample into the ring, or says why not.
