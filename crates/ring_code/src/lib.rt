@@ -175,11 +175,11 @@ pub fn hour_in(cells: &[u16; 1026], age: u32) -> Hour
     slot_hour(cells[0], newest, cells[2 + k], cells[514 + k], age)
 }
 
-// The height that is told of an hour; 0 where there is none.
-fn height_of(hour: Hour) -> u32
-    ensures { λ r. ⌜ r ≡ tellingOf hour .height ⌝ }
+// The height that is told of the hour of an age from its slot; 0 where there is none.
+fn slot_height(any: u16, newest: u16, number: u16, held: u16, age: u32) -> u32
+    ensures { λ r. ⌜ r ≡ slotHour any newest number held age .height ⌝ }
 {
-    match hour {
+    match slot_hour(any, newest, number, held, age) {
         Hour::Sample(height) => height,
         Hour::Blank => 0,
         Hour::Refused(_) => 0,
@@ -197,8 +197,13 @@ pub fn heights_of(ring: Ring, hours: u32) -> [u32; 24]
     while i < hours {
         let age = hours - 1 - i;
         let k = slot_of(ring.newest, age);
-        let hour = slot_hour(ring.any, ring.newest, ring.numbers[k], ring.heights[k], age);
-        heights[i as usize] = height_of(hour);
+        heights[i as usize] = slot_height(
+            ring.any,
+            ring.newest,
+            ring.numbers[k],
+            ring.heights[k],
+            age,
+        );
         i += 1;
     }
     heights
@@ -217,8 +222,7 @@ pub fn heights_in(cells: &[u16; 1026], hours: u32) -> [u32; 24]
     while i < hours {
         let age = hours - 1 - i;
         let k = slot_of(newest, age);
-        let hour = slot_hour(any, newest, cells[2 + k], cells[514 + k], age);
-        heights[i as usize] = height_of(hour);
+        heights[i as usize] = slot_height(any, newest, cells[2 + k], cells[514 + k], age);
         i += 1;
     }
     heights
