@@ -1,8 +1,9 @@
 // The ring of wear samples: an empty one, taking a sample, and what it tells of an hour.
 ghost use mathlib.Core.Path.{_≡_};
 ghost use mathlib.Core.Bool.{true};
-ghost use Prim.Native.Nat.{_+_, _≤_};
-ghost use lib.ListN.{length, take, drop};
+ghost use Prim.Native.Nat.{_+_, _-_, _≤_};
+ghost use lib.ListN.{length, take, replicate};
+ghost use lib.Seq.{sets};
 ghost use Rattle.ring.specs.Samples.{stepsTo};
 ghost use Rattle.ring.specs.Kept.{emptyRing, slotOf, takes as takesSample, hoursOn, blanked, taking, slotHour, hourIn, tellingOf, hourOf, heightsOf, ringIn, cellsOf};
 use ring::Hour;
@@ -54,18 +55,33 @@ fn hours_on(any: u16, newest: u16, sequence: u16) -> u32
     steps_to(newest, sequence) as u32
 }
 
+// Makes the numbers from one place up to another 0.
+fn zero(cells: &mut [u16], from: usize, to: usize)
+    requires { ⌜ from ≤ to ⌝ }
+    requires { ⌜ to ≤ length (now cells) ⌝ }
+    ensures { λ _. ⌜ now (cells .exit) ≡ sets (now (cells .entry)) from (replicate (to - from) 0) ⌝ }
+{
+    let mut i = from;
+    while i < to {
+        cells[i] = 0;
+        i += 1;
+    }
+}
+
 // Makes the hours before that of number n blank, so many of them, in numbers of which the heights are those from `from` on.
 fn blank(cells: &mut [u16], from: usize, n: u16, hours: u32)
     requires { ⌜ from + 512 ≤ length (now cells) ⌝ }
     requires { ⌜ hours ≤ 511 ⌝ }
     ensures { λ _. ⌜ now (cells .exit) ≡ blanked from (now (cells .entry)) n hours ⌝ }
 {
-    let mut k = 0;
-    while k < hours {
-        k += 1;
-        let at = slot_of(n, k);
-        cells[from + at] = 0;
+    let at = slot_of(n, 0);
+    let back = hours as usize;
+    if back <= at {
+        zero(cells, from + at - back, from + at);
+        return;
     }
+    zero(cells, from, from + at);
+    zero(cells, from + 512 - (back - at), from + 512);
 }
 
 // Takes a sample into the ring, or says why not.
@@ -122,8 +138,9 @@ pub fn take_into(cells: &mut [u16; 1026], sequence: u16, height: u32) -> u32
     take_cells(cells, sequence, height)
 }
 
-// The answer of a slot about the hour of an age: the number of the sample there, and one more than its height.
-fn slot_answer(any: u16, newest: u16, number: u16, held: u16, age: u32) -> Hour
+// What is told of the hour of an age from its slot: the number of the sample there, and one more than its height.
+fn slot_hour(any: u16, newest: u16, number: u16, held: u16, age: u32) -> Hour
+    ensures { λ r. ⌜ tellingOf r ≡ slotHour any newest number held age ⌝ }
     ensures { λ r. ⌜ r ≡ hourOf (slotHour any newest number held age) ⌝ }
 {
     let at = steps_to(number, newest) as u32;
@@ -131,13 +148,6 @@ fn slot_answer(any: u16, newest: u16, number: u16, held: u16, age: u32) -> Hour
         return Hour::Sample(held as u32 - 1);
     }
     Hour::Blank
-}
-
-// What is told of the hour of an age from its slot.
-fn slot_hour(any: u16, newest: u16, number: u16, held: u16, age: u32) -> Hour
-    ensures { λ r. ⌜ tellingOf r ≡ slotHour any newest number held age ⌝ }
-{
-    slot_answer(any, newest, number, held, age)
 }
 
 // What the ring tells of the hour of an age.
@@ -149,7 +159,7 @@ pub fn hour_at(ring: Ring, age: u32) -> Hour
         return Hour::Refused(27);
     }
     let k = slot_of(ring.newest, age);
-    slot_answer(ring.any, ring.newest, ring.numbers[k], ring.heights[k], age)
+    slot_hour(ring.any, ring.newest, ring.numbers[k], ring.heights[k], age)
 }
 
 // The same of a ring as a C caller holds it.
@@ -162,14 +172,14 @@ pub fn hour_in(cells: &[u16; 1026], age: u32) -> Hour
     }
     let newest = cells[1];
     let k = slot_of(newest, age);
-    slot_answer(cells[0], newest, cells[2 + k], cells[514 + k], age)
+    slot_hour(cells[0], newest, cells[2 + k], cells[514 + k], age)
 }
 
-// The height that is told of an hour; 0 where there is none.
-fn height_of(hour: Hour) -> u32
-    ensures { λ r. ⌜ r ≡ tellingOf hour .height ⌝ }
+// The height that is told of the hour of an age from its slot; 0 where there is none.
+fn slot_height(any: u16, newest: u16, number: u16, held: u16, age: u32) -> u32
+    ensures { λ r. ⌜ r ≡ slotHour any newest number held age .height ⌝ }
 {
-    match hour {
+    match slot_hour(any, newest, number, held, age) {
         Hour::Sample(height) => height,
         Hour::Blank => 0,
         Hour::Refused(_) => 0,
@@ -187,37 +197,33 @@ pub fn heights_of(ring: Ring, hours: u32) -> [u32; 24]
     while i < hours {
         let age = hours - 1 - i;
         let k = slot_of(ring.newest, age);
-        let hour = slot_hour(ring.any, ring.newest, ring.numbers[k], ring.heights[k], age);
-        heights[i as usize] = height_of(hour);
+        heights[i as usize] = slot_height(
+            ring.any,
+            ring.newest,
+            ring.numbers[k],
+            ring.heights[k],
+            age,
+        );
         i += 1;
     }
     heights
 }
 
-// 512 numbers of a ring as a C caller holds it.
-fn cells_from(cells: &[u16; 1026], from: usize) -> [u16; 512]
-    requires { ⌜ from + 512 ≤ 1026 ⌝ }
-    ensures { λ r. ⌜ r ≡ take 512 (drop from (now (cells .entry))) ⌝ }
+// The same of a ring as a C caller holds it.
+pub fn heights_in(cells: &[u16; 1026], hours: u32) -> [u32; 24]
+    requires { ⌜ hours ≤ 24 ⌝ }
+    ensures { λ r. ⌜ take hours r ≡ heightsOf (ringIn (now (cells .entry))) hours ⌝ }
+    ensures { λ r. ⌜ length r ≡ 24 ⌝ }
 {
-    let all = &cells[..];
-    let mut part = [0u16; 512];
+    let any = cells[0];
+    let newest = cells[1];
+    let mut heights = [0u32; 24];
     let mut i = 0;
-    while i < 512 {
-        part[i] = all[from + i];
+    while i < hours {
+        let age = hours - 1 - i;
+        let k = slot_of(newest, age);
+        heights[i as usize] = slot_height(any, newest, cells[2 + k], cells[514 + k], age);
         i += 1;
     }
-    part
-}
-
-// The ring that a C caller holds.
-pub fn ring_from(cells: &[u16; 1026]) -> Ring
-    ensures { λ r. ⌜ r ≡ ringIn (now (cells .entry)) ⌝ }
-{
-    let all = &cells[..];
-    Ring {
-        any: all[0],
-        newest: all[1],
-        numbers: cells_from(cells, 2),
-        heights: cells_from(cells, 514),
-    }
+    heights
 }

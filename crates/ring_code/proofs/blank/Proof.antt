@@ -1,62 +1,78 @@
-use borrow.Author.Needs.{needs}
+use Rattle.ring.proofs.Runs.{blank-one, blank-two}
 use native.Mathlib.Omega.{arith}
-use mathlib.Core.Path.{_≡_, refl, ap, _∙_}
-use Prim.Native.Nat.{_-_, _≤_}
-use lib.ListN.{length, length-set}
-use Rattle.ring.specs.Kept.{blanked}
-use Rattle.ring.proofs.Stored.{blanked-none, blank-turn}
+use borrow.Author.Needs.{needs}
 use Rattle.ring_code.proofs.blank.Statement.{statement}
 use Rattle.ring_code.proofs.blank.Tie as tie
 
-abbrev Inv-loop : tie.InvT-loop
-Inv-loop cells₀ from n hours k₀ cells k = (k ≤ hours) × ((length cells ≡ length cells₀) × (cells ≡ blanked from cells₀ n k))
-
-abbrev μ-loop : tie.MeasureT-loop
-μ-loop cells₀ from n hours k₀ cells k = hours - k
-
-loop-holds : tie.Need-loop-holds Inv-loop μ-loop
-loop-holds c = (omega arith, (refl, blanked-none _ _ _))
-
-add-k : tie.Need-add-k Inv-loop μ-loop
-add-k c = search needs
-
-slot-of-requires : tie.Need-slot-of-requires Inv-loop μ-loop
+slot-of-requires : tie.Need-slot-of-requires
 slot-of-requires c κs = search needs
 
-add-cells : tie.Need-add-cells Inv-loop μ-loop
-add-cells c = search needs
+add-zero : tie.Need-add-zero
+add-zero c = search needs
 
-mul-cells : tie.Need-mul-cells Inv-loop μ-loop
-mul-cells c = search needs
+sub-zero : tie.Need-sub-zero
+sub-zero c = search needs
 
-slice-write-cells : tie.Need-slice-write-cells Inv-loop μ-loop
-slice-write-cells c = search needs
+add-zero-2 : tie.Need-add-zero-2
+add-zero-2 c = search needs
 
-loop-less : tie.Need-loop-less Inv-loop μ-loop
-loop-less c = search needs
+zero-requires : tie.Need-zero-requires
+zero-requires c κs = search needs
 
-loop-again : tie.Need-loop-again Inv-loop μ-loop
-loop-again c = let l = c .before .before .loop in (omega arith, (simp length-set (l .inv .1 .0), blank-turn _ _ _ _ _ _ (l .inv .1 .1) (c .slot-of .ensures)))
+same-length : tie.Need-same-length
+same-length c = search needs
 
-same-length : tie.Need-same-length Inv-loop μ-loop
-same-length c = c .before .loop .inv .1 .0
+returns : tie.Need-returns
+returns c =
+    let a = c .before .before .before .before .before .before .before .args in
+    blank-one (a .from) _ (a .n) (a .hours) (c .before .before .before .before .before .slot-of .result) (c .before .before .before .before .before .slot-of .ensures) _ (c .before .before .before .before .if1 .taken) (c .before .before .zero .ensures)
 
-returns : tie.Need-returns Inv-loop μ-loop
-returns c = let a = c .before .before .before .args in let e : c .before .loop .k ≡ a .hours = omega arith in c .before .loop .inv .1 .1 ∙ ap (blanked (a .from) (a .cells .now) (a .n)) e
+add-zero-3 : tie.Need-add-zero-3
+add-zero-3 c = search needs
+
+zero-requires-2 : tie.Need-zero-requires-2
+zero-requires-2 c κs = search needs
+
+add-zero-4 : tie.Need-add-zero-4
+add-zero-4 c = search needs
+
+sub-zero-2 : tie.Need-sub-zero-2
+sub-zero-2 c = search needs
+
+sub-zero-3 : tie.Need-sub-zero-3
+sub-zero-3 c = search needs
+
+add-zero-5 : tie.Need-add-zero-5
+add-zero-5 c = search needs
+
+zero-requires-3 : tie.Need-zero-requires-3
+zero-requires-3 c κs = search needs
+
+same-length-2 : tie.Need-same-length-2
+same-length-2 c = search needs
+
+returns-2 : tie.Need-returns-2
+returns-2 c =
+    let a = c .before .before .before .before .before .before .before .before .before .before .before .args in
+    blank-two (a .from) _ (a .n) (a .hours) (c .before .before .before .before .before .before .before .before .before .slot-of .result) (c .before .before .before .before .before .before .before .before .before .slot-of .ensures) _ _ (omega arith) (omega arith) (c .before .before .before .before .before .before .zero2 .ensures) (c .before .before .zero3 .ensures)
 
 pub blank-spec : {M : Type 1} → statement M
 blank-spec =
     tie.close
     (tie.spec
-    Inv-loop
-    μ-loop
-    loop-holds
-    add-k
     slot-of-requires
-    add-cells
-    mul-cells
-    slice-write-cells
-    loop-less
-    loop-again
+    add-zero
+    sub-zero
+    add-zero-2
+    zero-requires
     same-length
-    returns)
+    returns
+    add-zero-3
+    zero-requires-2
+    add-zero-4
+    sub-zero-2
+    sub-zero-3
+    add-zero-5
+    zero-requires-3
+    same-length-2
+    returns-2)
