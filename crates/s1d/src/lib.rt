@@ -260,7 +260,6 @@ pub extern "C" fn s1d_wear_strip<'a>(
     ensures { λ r. ⌜ now (list .exit) ≡ listAfter (stripFor (ringIn (now (ring .entry))) (askWith hours depth x y column bar background) (now (site .entry)) (now (factory .entry))) (now (list .entry)) (now (words .entry)) ⌝ }
     ensures { λ r. ⌜ now (words .exit) ≡ wordsAfter (stripFor (ringIn (now (ring .entry))) (askWith hours depth x y column bar background) (now (site .entry)) (now (factory .entry))) (now (list .entry)) (now (words .entry)) ⌝ }
 {
-    let held = ring_code::ring_from(ring);
     let ask = Ask {
         hours,
         depth,
@@ -270,7 +269,7 @@ pub extern "C" fn s1d_wear_strip<'a>(
         bar,
         background,
     };
-    let made = wear_code::wear_strip(held, ask, site, factory, list, words);
+    let made = wear_code::strip_in(ring, ask, site, factory, list, words);
     answers_code::strip_given(made)
 }
 

@@ -4,6 +4,7 @@ ghost use Prim.Native.Nat.{_≤_};
 ghost use lib.ListN.{length};
 ghost use Rattle.record.specs.Lists.{AllBelow};
 ghost use Rattle.record.specs.Checks.{firstOf};
+ghost use Rattle.ring.specs.Kept.{ringIn};
 ghost use Rattle.wear.specs.Strip.{stripWith, stripFor, askRows, stripping, listAfter, wordsAfter, strippingOf, answerOf};
 ghost use Rattle.wear.specs.Limits.{Drawable};
 use ring::Ring;
@@ -90,6 +91,32 @@ pub fn wear_strip<'a>(
     }
     let heights = ring_code::heights_of(ring, a.hours);
     let d = wear_glyph::digits_in(ring.any, ring.newest);
+    let n = a.hours as usize;
+    let k = d.count as usize;
+    let digits = d.digits;
+    make_strip(a, &heights[..n], &digits[..k], site, factory, list, words)
+}
+
+// The same of a ring as a C caller holds it.
+pub fn strip_in<'a>(
+    cells: &[u16; 1026],
+    a: Ask,
+    site: &'a [u8],
+    factory: &'a [u8],
+    list: &mut [u8],
+    words: &mut [u16],
+) -> StripAnswer
+    ensures { λ r. ⌜ strippingOf r ≡ stripping (stripFor (ringIn (now (cells .entry))) a (now (site .entry)) (now (factory .entry))) (length (now (list .entry))) (length (now (words .entry))) ⌝ }
+    ensures { λ r. ⌜ r ≡ answerOf (stripping (stripFor (ringIn (now (cells .entry))) a (now (site .entry)) (now (factory .entry))) (length (now (list .entry))) (length (now (words .entry)))) ⌝ }
+    ensures { λ r. ⌜ now (list .exit) ≡ listAfter (stripFor (ringIn (now (cells .entry))) a (now (site .entry)) (now (factory .entry))) (now (list .entry)) (now (words .entry)) ⌝ }
+    ensures { λ r. ⌜ now (words .exit) ≡ wordsAfter (stripFor (ringIn (now (cells .entry))) a (now (site .entry)) (now (factory .entry))) (now (list .entry)) (now (words .entry)) ⌝ }
+{
+    let fault = fault_of(a, factory.len() as u64);
+    if fault != 0 {
+        return StripAnswer::Refused(fault);
+    }
+    let heights = ring_code::heights_in(cells, a.hours);
+    let d = wear_glyph::digits_in(cells[0], cells[1]);
     let n = a.hours as usize;
     let k = d.count as usize;
     let digits = d.digits;
