@@ -1,18 +1,16 @@
 -- Some strips, computed: their commands, bytes and host words, their refusals, lengths and buffers.
-use Prim.Native.Nat.{ℕ, _-_}
+use Prim.Native.Nat.{ℕ}
 use mathlib.Core.Path.{_≡_, refl}
-use mathlib.Core.Bool.{true, false}
 use mathlib.Core.List.{List, [], _∷_, _++_}
-use lib.ListN.{length, take, drop, replicate}
+use lib.ListN.{take, drop, replicate}
 use Rattle.record.specs.Checks.{firstOf}
 use Rattle.pixel.specs.Depth.{isDepth}
 use Rattle.command.specs.Command.{commandBytes, lineWords}
 use Rattle.command.specs.declared.Command.{Command}
-use Rattle.ring.specs.Samples.{Sample}
 use Rattle.ring.specs.Kept.{emptyRing, takes, hoursOn, blanked, withSample, taking, slotHour, hourIn, ringAfter, heightsOf}
 use Rattle.ring.specs.declared.Ring.{Ring}
 use Rattle.wear.specs.Font.{finding, glyphOf, glyphBit, lastDigits}
-use Rattle.wear.specs.Strip.{digitsIn, Strip, stripWith, stripFor, column, columns, writes, stripCommands, listBytes, stripList, glyphColour, glyphWord, glyphWords, digitWords, stripWords, allInReach, askRows, stripRows, Stripping, stripping, listAfter, wordsAfter, strippingOf, answerOf}
+use Rattle.wear.specs.Strip.{digitsIn, Strip, stripWith, stripFor, column, columns, writes, stripCommands, listBytes, stripList, glyphColour, glyphWord, glyphWords, digitWords, stripWords, allInReach, askRows, stripRows, stripping, listAfter, wordsAfter, strippingOf, answerOf}
 use Rattle.wear.specs.Limits.{commandCount}
 use Rattle.wear.specs.declared.Ask.{Ask}
 use Rattle.wear.specs.declared.StripAnswer.the-variants.{Made, Refused}

@@ -94,10 +94,10 @@ pub fn writes_reach(a: Ask, digits: &[u8]) -> bool
 fn column_count(height: u32) -> usize
     ensures { λ r. ⌜ r ≡ cond (eqb height 0) 1 2 ⌝ }
 {
-    if height == 0 {
-        return 1;
+    if height != 0 {
+        return 2;
     }
-    2
+    1
 }
 
 // How many commands the columns have.
