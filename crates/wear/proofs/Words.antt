@@ -1,6 +1,7 @@
 -- Laws of a glyph's host words: how many they are, a word by the colours of its pixels, and storing them.
 use Prim.Native.Nat.{ℕ, zero, suc, _+_, _-_, _*_, _/_, _%_, _^_, _<_, _≤_}
 use mathlib.Core.Path.{_≡_, refl, sym, ap, _∙_}
+use mathlib.Core.Bool.{cond}
 use mathlib.Core.List.{List, [], _∷_, _++_}
 use native.Mathlib.Nat.{zero-mul, mul-zero, suc-mul, mul-comm, mul-suc, mul-le-mul-left}
 use native.Mathlib.Numerals.{add-one}
@@ -43,13 +44,14 @@ digit-words-count a site factory (d ∷ ds) =
 -- ---- a word
 module _ (a : Ask) (g : List ℕ) where
   -- the colour by the bit
-  pub colour-bar : (i j row : ℕ) → row ≡ byteAt g j → row / 2 ^ (7 - i) % 2 ≡ 1 → a .bar ≡ glyphColour a g i j
-  unfolding glyphColour glyphBit
-  colour-bar i j row e h = rw (← e, h)
+  by-bit : (b : ℕ) → b < 2 → getD (a .background ∷ a .bar ∷ []) b 0 ≡ cond (eqb b 1) (a .bar) (a .background)
+  by-bit zero h = refl
+  by-bit (suc zero) h = refl
+  by-bit (suc (suc b)) h = absurd (omega arith)
 
-  pub colour-background : (i j row : ℕ) → row ≡ byteAt g j → (row / 2 ^ (7 - i) % 2 ≡ 1 → ⊥) → a .background ≡ glyphColour a g i j
+  pub colour-looked-up : (i j row : ℕ) → row ≡ byteAt g j → getD (a .background ∷ a .bar ∷ []) (row / 2 ^ (7 - i) % 2) 0 ≡ glyphColour a g i j
   unfolding glyphColour glyphBit
-  colour-background i j row e h = rw (← e, ne-eqb (row / 2 ^ (7 - i) % 2) 1 h)
+  colour-looked-up i j row e = rw (← e) (by-bit (row / 2 ^ (7 - i) % 2) (omega arith))
 
   -- a colour of a byte where both are
   pub colour-low : (i j : ℕ) → a .bar ≤ 255 → a .background ≤ 255 → glyphColour a g i j ≤ 255

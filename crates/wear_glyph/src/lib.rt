@@ -100,18 +100,16 @@ pub fn digits_in(any: u16, newest: u16) -> Digits
     digits_of(newest)
 }
 
-// The colour of pixel (i, j) of a glyph.
+// The colour of pixel (i, j) of a glyph; looked up, since a branch on each pixel is slow.
 fn glyph_colour(a: Ask, glyph: &[u8], i: u32, j: usize) -> u16
     requires { ⌜ j < length (now glyph) ⌝ }
     requires { ⌜ i ≤ 7 ⌝ }
     ensures { λ r. ⌜ r ≡ glyphColour a (now (glyph .entry)) i j ⌝ }
 {
     let row = record_code::wide(glyph[j]);
-    if (row >> (7 - i)) % 2 == 1 {
-        a.bar
-    } else {
-        a.background
-    }
+    let bit = (row >> (7 - i)) % 2;
+    let colours = [a.background, a.bar];
+    colours[bit as usize]
 }
 
 // Word k of a glyph's host words.
