@@ -1,9 +1,12 @@
 -- The heights that a ring tells: how many, which hour each is of, none above 100.
-use Prim.Native.Nat.{ℕ, zero, suc, _-_, _≤_, _<_}
+use Prim.Native.Nat.{ℕ, zero, suc, _+_, _-_, _≤_, _<_}
+use native.Mathlib.Numerals.{add-one}
 use native.Mathlib.Omega.{arith}
-use mathlib.Core.Path.{_≡_, refl, ap}
+use mathlib.Core.Path.{_≡_, refl, sym, ap, _∙_}
+use mathlib.Core.List.{List, _++_, append-nil}
 use mathlib.Core.Bool.{not, _&&_}
-use lib.ListN.{length, getD}
+use lib.ListN.{length, getD, set, take, length-set}
+use lib.Seq.{take-suc-set, append-snoc}
 use lib.Dec.{leb, eqb}
 use borrow.Author.Tests.{leb-true}
 use Rattle.record.proofs.Choice.{and-right, both-ways}
@@ -53,3 +56,37 @@ heights-at r (suc n) (suc c) h =
     let e : n - 1 - c ≡ suc n - 1 - suc c = omega arith in
     let g : c < n = omega arith in
     rw (← e) (heights-at r n c g)
+
+-- the heights of the last hours, told into an array from the oldest on: i of them are there
+pub record HeightsTo (r : Ring) (hours : ℕ) (heights : List ℕ) (i : ℕ) : Type 0 where
+  pub few : hours ≤ 24
+  pub upto : i ≤ hours
+  pub size : length heights ≡ 24
+  pub told : take i heights ++ heightsOf r (hours - i) ≡ heightsOf r hours
+
+module _ (r : Ring) (hours : ℕ) where
+  pub heights-none : (heights : List ℕ) → hours ≤ 24 → length heights ≡ 24 → HeightsTo r hours heights 0
+  heights-none heights h n =
+      let e : hours - 0 ≡ hours = omega arith in record { few = h; upto = omega arith; size = n; told = ap (heightsOf r) e }
+
+  pub heights-more : (heights : List ℕ) (i v : ℕ) (t : Telling) → HeightsTo r hours heights i → i < hours → v ≡ t .height → t ≡ hourIn r (hours - 1 - i)
+      → HeightsTo r hours (set heights i v) (i + 1)
+  unfolding heightsOf
+  heights-more heights i v t to h f g =
+      let left : ℕ = hours - 1 - i in
+      let here : hours - i ≡ suc left = omega arith in
+      let next : hours - suc i ≡ left = omega arith in
+      let e : v ≡ hourIn r left .height = f ∙ ap (λ (x : Telling). x .height) g in
+      record {
+        few = to .few;
+        upto = omega arith;
+        size = length-set heights i v ∙ to .size;
+        told = rw (add-one i, take-suc-set heights i v (omega arith), append-snoc, e, next) (rw here at (to .told));
+      }
+
+  pub heights-all : (heights : List ℕ) (i : ℕ) → HeightsTo r hours heights i → hours ≤ i → (take hours heights ≡ heightsOf r hours) × (length heights ≡ 24)
+  unfolding heightsOf
+  heights-all heights i t h =
+      let e : i ≡ hours = omega arith in
+      let none : hours - hours ≡ 0 = omega arith in
+      (sym (append-nil (take hours heights)) ∙ (rw (e, none) at (t .told)), t .size)

@@ -1,18 +1,17 @@
 -- Stores into a ring's numbers: hours made blank, a sample put into its slot, also in a ring as a C caller holds it.
 use Prim.Native.Nat.{ℕ, zero, suc, _+_, _-_, _≤_, _<_}
 use native.Mathlib.Nat.{zero-add, suc-add}
-use native.Mathlib.Numerals.{add-one}
 use native.Mathlib.Omega.{arith}
 use mathlib.Core.Path.{_≡_, refl, sym, ap, subst, _∙_}
 use mathlib.Core.Bool.{Bool, true, false, _&&_, _||_, cond}
 use lib.Dec.{leb, eqb}
 use borrow.Author.Tests.{leb-true}
-use mathlib.Core.List.{List, [], _∷_, _++_, map, append-assoc, append-nil}
+use mathlib.Core.List.{List, [], _∷_, _++_, map}
 use lib.ListN.{length, getD, set, take, drop, length-take, length-drop, length-set, take-append-drop}
-use lib.Seq.{take-suc, take-suc-set, take-all, set-append-left, drop-drop, getD-drop}
+use lib.Seq.{set-append-left, drop-drop}
 use Rattle.record.proofs.Choice.{and-left, and-right}
 use Rattle.ring.specs.Samples.{stepsTo}
-use Rattle.ring.specs.Kept.{slotOf, takes, hoursOn, blanked, withSample, taking, hourIn, heightsOf, ringIn, cellsOf}
+use Rattle.ring.specs.Kept.{slotOf, takes, hoursOn, blanked, withSample, taking, ringIn, cellsOf}
 use Rattle.ring.specs.declared.Ring.{Ring}
 use Rattle.ring.specs.declared.Taken.{Taken}
 
@@ -142,47 +141,7 @@ cells-taken cells blanks s h k at n t m a l b =
     ∙ (ap (λ (x : ℕ). g (hoursOn (getD cells 0 0) (getD cells 1 0) s) x) a
     ∙ ap cellsOf (taken-ring (ringIn cells) s h t)))))
 
--- the heights from the oldest on: one more, and all of them
-pub heights-start : (r : Ring) (hours : ℕ) → heightsOf r (hours - 0) ≡ heightsOf r hours
-heights-start r hours = let e : hours - 0 ≡ hours = omega arith in rw e
-
-pub heights-turn : (r : Ring) (hours i v age : ℕ) (l : List ℕ) → i < hours → i < length l → age ≡ hours - 1 - i → v ≡ hourIn r age .height
-    → take i l ++ heightsOf r (hours - i) ≡ heightsOf r hours → take (i + 1) (set l i v) ++ heightsOf r (hours - (i + 1)) ≡ heightsOf r hours
-unfolding heightsOf
-heights-turn r hours i v age l h n a e t =
-    let m : hours - i ≡ suc (hours - (i + 1)) = omega arith in
-    let b : age ≡ hours - (i + 1) = omega arith in
-    let w : v ≡ hourIn r (hours - (i + 1)) .height = e ∙ ap (λ (x : ℕ). hourIn r x .height) b in
-    ap (λ (x : ℕ). take x (set l i v) ++ heightsOf r (hours - (i + 1))) (add-one i)
-    ∙ (ap (λ (x : List ℕ). x ++ heightsOf r (hours - (i + 1))) (take-suc-set l i v n)
-    ∙ (append-assoc (take i l) (v ∷ []) (heightsOf r (hours - (i + 1)))
-    ∙ (ap (λ (x : ℕ). take i l ++ (x ∷ heightsOf r (hours - (i + 1)))) w
-    ∙ (ap (λ (x : ℕ). take i l ++ heightsOf r x) (sym m)
-    ∙ t))))
-
-pub heights-end : (r : Ring) (hours i : ℕ) (l : List ℕ) → i ≡ hours → take i l ++ heightsOf r (hours - i) ≡ heightsOf r hours → take hours l ≡ heightsOf r hours
-unfolding heightsOf
-heights-end r hours i l e t =
-    let z : hours - hours ≡ 0 = omega arith in
-    sym (append-nil (take hours l)) ∙ ap (λ (x : ℕ). take hours l ++ heightsOf r x) (sym z) ∙ subst (λ (x : ℕ). take x l ++ heightsOf r (hours - x) ≡ heightsOf r hours) e t
-
--- the ring of its numbers and heights
-pub ring-made : (cells ns hs : List ℕ) → length cells ≡ 1026 → ns ≡ take 512 (drop 2 cells) → hs ≡ take 512 (drop 514 cells)
-    → _≡_ {A = Ring} (record { any = getD cells 0 0; newest = getD cells 1 0; numbers = ns; heights = hs }) (ringIn cells)
-ring-made cells ns hs n e f =
-    let m : length (drop 514 cells) ≤ 512 = simp length-drop (omega arith) in
-    let g : hs ≡ drop 514 cells = f ∙ take-all 512 (drop 514 cells) m in
-    λ t. record { any = getD cells 0 0; newest = getD cells 1 0; numbers = e t; heights = g t }
-
 -- a struct tells the length of an array in this form
 pub array-length : (xs : List ℕ) → length (map (λ (x : ℕ). x) xs) ≡ length xs
 array-length [] = refl
 array-length (x ∷ xs) = ap suc (array-length xs)
-
--- a part copied: one number more
-pub part-turn : (cells part : List ℕ) (from i : ℕ) → from + i < length cells → i < length part → take i part ≡ take i (drop from cells)
-    → take (i + 1) (set part i (getD cells (from + i) 0)) ≡ take (i + 1) (drop from cells)
-part-turn cells part from i h n e =
-    let m : i < length (drop from cells) = simp length-drop (omega arith) in
-    rw (add-one i) (take-suc-set part i (getD cells (from + i) 0) n ∙ (ap (λ (x : List ℕ). x ++ (getD cells (from + i) 0 ∷ [])) e
-    ∙ (ap (λ (x : ℕ). take i (drop from cells) ++ (x ∷ [])) (sym (getD-drop from cells i 0)) ∙ sym (take-suc (drop from cells) i 0 m))))

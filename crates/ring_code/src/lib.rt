@@ -2,7 +2,7 @@
 ghost use mathlib.Core.Path.{_≡_};
 ghost use mathlib.Core.Bool.{true};
 ghost use Prim.Native.Nat.{_+_, _-_, _≤_};
-ghost use lib.ListN.{length, take, drop, replicate};
+ghost use lib.ListN.{length, take, replicate};
 ghost use lib.Seq.{sets};
 ghost use Rattle.ring.specs.Samples.{stepsTo};
 ghost use Rattle.ring.specs.Kept.{emptyRing, slotOf, takes as takesSample, hoursOn, blanked, taking, slotHour, hourIn, tellingOf, hourOf, heightsOf, ringIn, cellsOf};
@@ -138,8 +138,9 @@ pub fn take_into(cells: &mut [u16; 1026], sequence: u16, height: u32) -> u32
     take_cells(cells, sequence, height)
 }
 
-// The answer of a slot about the hour of an age: the number of the sample there, and one more than its height.
-fn slot_answer(any: u16, newest: u16, number: u16, held: u16, age: u32) -> Hour
+// What is told of the hour of an age from its slot: the number of the sample there, and one more than its height.
+fn slot_hour(any: u16, newest: u16, number: u16, held: u16, age: u32) -> Hour
+    ensures { λ r. ⌜ tellingOf r ≡ slotHour any newest number held age ⌝ }
     ensures { λ r. ⌜ r ≡ hourOf (slotHour any newest number held age) ⌝ }
 {
     let at = steps_to(number, newest) as u32;
@@ -147,13 +148,6 @@ fn slot_answer(any: u16, newest: u16, number: u16, held: u16, age: u32) -> Hour
         return Hour::Sample(held as u32 - 1);
     }
     Hour::Blank
-}
-
-// What is told of the hour of an age from its slot.
-fn slot_hour(any: u16, newest: u16, number: u16, held: u16, age: u32) -> Hour
-    ensures { λ r. ⌜ tellingOf r ≡ slotHour any newest number held age ⌝ }
-{
-    slot_answer(any, newest, number, held, age)
 }
 
 // What the ring tells of the hour of an age.
@@ -165,7 +159,7 @@ pub fn hour_at(ring: Ring, age: u32) -> Hour
         return Hour::Refused(27);
     }
     let k = slot_of(ring.newest, age);
-    slot_answer(ring.any, ring.newest, ring.numbers[k], ring.heights[k], age)
+    slot_hour(ring.any, ring.newest, ring.numbers[k], ring.heights[k], age)
 }
 
 // The same of a ring as a C caller holds it.
@@ -178,7 +172,7 @@ pub fn hour_in(cells: &[u16; 1026], age: u32) -> Hour
     }
     let newest = cells[1];
     let k = slot_of(newest, age);
-    slot_answer(cells[0], newest, cells[2 + k], cells[514 + k], age)
+    slot_hour(cells[0], newest, cells[2 + k], cells[514 + k], age)
 }
 
 // The height that is told of an hour; 0 where there is none.
@@ -210,30 +204,18 @@ pub fn heights_of(ring: Ring, hours: u32) -> [u32; 24]
     heights
 }
 
-// 512 numbers of a ring as a C caller holds it.
-fn cells_from(cells: &[u16; 1026], from: usize) -> [u16; 512]
-    requires { ⌜ from + 512 ≤ 1026 ⌝ }
-    ensures { λ r. ⌜ r ≡ take 512 (drop from (now (cells .entry))) ⌝ }
+// The same of a ring as a C caller holds it.
+pub fn heights_in(cells: &[u16; 1026], hours: u32) -> [u32; 24]
+    requires { ⌜ hours ≤ 24 ⌝ }
+    ensures { λ r. ⌜ take hours r ≡ heightsOf (ringIn (now (cells .entry))) hours ⌝ }
+    ensures { λ r. ⌜ length r ≡ 24 ⌝ }
 {
-    let all = &cells[..];
-    let mut part = [0u16; 512];
+    let mut heights = [0u32; 24];
     let mut i = 0;
-    while i < 512 {
-        part[i] = all[from + i];
+    while i < hours {
+        let hour = hour_in(cells, hours - 1 - i);
+        heights[i as usize] = height_of(hour);
         i += 1;
     }
-    part
-}
-
-// The ring that a C caller holds.
-pub fn ring_from(cells: &[u16; 1026]) -> Ring
-    ensures { λ r. ⌜ r ≡ ringIn (now (cells .entry)) ⌝ }
-{
-    let all = &cells[..];
-    Ring {
-        any: all[0],
-        newest: all[1],
-        numbers: cells_from(cells, 2),
-        heights: cells_from(cells, 514),
-    }
+    heights
 }

@@ -1,23 +1,20 @@
 use borrow.Author.Needs.{needs}
 use native.Mathlib.Omega.{arith}
-use mathlib.Core.Path.{_≡_, refl}
-use mathlib.Core.List.{_++_}
-use Prim.Native.Nat.{_-_, _≤_}
-use lib.ListN.{length, take, length-set}
-use Rattle.ring.specs.Kept.{tellingOf, heightsOf}
-use Rattle.ring.proofs.Stored.{heights-start, heights-turn, heights-end}
-use Rattle.ring.proofs.Told.{told-height}
+use mathlib.Core.Path.{refl}
+use Prim.Native.Nat.{_-_}
+use Rattle.ring.proofs.Heights.{HeightsTo, heights-none, heights-more, heights-all}
+use Rattle.ring.proofs.Told.{slot-tells}
 use Rattle.ring_code.proofs.heights_of.Statement.{statement}
 use Rattle.ring_code.proofs.heights_of.Tie as tie
 
 abbrev Inv-loop : tie.InvT-loop
-Inv-loop hours ring heights₀ i₀ heights i = (hours ≤ 24) × ((i ≤ hours) × ((length heights ≡ 24) × (take i heights ++ heightsOf ring (hours - i) ≡ heightsOf ring hours)))
+Inv-loop hours ring heights₀ i₀ heights i = HeightsTo ring hours heights i
 
 abbrev μ-loop : tie.MeasureT-loop
 μ-loop hours ring heights₀ i₀ heights i = hours - i
 
 loop-holds : tie.Need-loop-holds Inv-loop μ-loop
-loop-holds c = let a = c .args in (c .pre, (omega arith, (refl, heights-start (a .t1) (a .hours))))
+loop-holds c = heights-none _ _ _ (c .pre) refl
 
 sub-age : tie.Need-sub-age Inv-loop μ-loop
 sub-age c = search needs
@@ -62,10 +59,18 @@ loop-less : tie.Need-loop-less Inv-loop μ-loop
 loop-less c = search needs
 
 loop-again : tie.Need-loop-again Inv-loop μ-loop
-loop-again c = let l = c .before .before .before .before .before .before .loop in let a = c .before .before .before .before .before .before .before .args in (l .inv .0, (omega (arith, c .before .before .before .before .before .loop-test .taken), (simp length-set (l .inv .1 .1 .0), heights-turn (a .t1) (a .hours) (l .i) _ (a .hours - 1 - l .i) (l .heights) (c .before .before .before .before .before .loop-test .taken) (omega (arith, c .before .before .before .before .before .loop-test .taken, l .inv)) refl (told-height (a .t1) (a .hours - 1 - l .i) (c .before .before .before .before .slot-of .result) _ (tellingOf (c .before .slot-hour .result)) (omega (arith, l .inv)) (c .before .before .before .before .slot-of .ensures) (c .before .slot-hour .ensures) (c .height-of .ensures)) (l .inv .1 .1 .1))))
+loop-again c =
+    let a = c .before .before .before .before .before .before .before .args in
+    let l = c .before .before .before .before .before .before .loop in
+    heights-more (a .t1) (a .hours) (l .heights) (l .i) _ _ (l .inv) (c .before .before .before .before .before .loop-test .taken) (c .height-of .ensures)
+    (slot-tells (a .t1) (a .hours - 1 - l .i) (c .before .before .before .before .slot-of .result) _ (omega (arith, l .inv)) (c .before .before .before .before .slot-of .ensures)
+    (c .before .slot-hour .ensures .0))
 
 returns : tie.Need-returns Inv-loop μ-loop
-returns c = let l = c .before .loop in let a = c .before .before .args in (heights-end (a .t1) (a .hours) (l .i) (l .heights) (omega arith) (l .inv .1 .1 .1), l .inv .1 .1 .0)
+returns c =
+    let a = c .before .before .args in
+    let l = c .before .loop in
+    heights-all (a .t1) (a .hours) (l .heights) (l .i) (l .inv) (c .loop-test .left)
 
 pub heights-of-spec : {M : Type 1} → statement M
 heights-of-spec =

@@ -1,5 +1,4 @@
-use native.Mathlib.Omega.{arith}
-use Rattle.ring.proofs.Told.{refuses, answers-in}
+use Rattle.ring.proofs.Told.{refuses, slot-told-in, answers}
 use borrow.Author.Needs.{needs}
 use Rattle.ring_code.proofs.hour_in.Statement.{statement}
 use Rattle.ring_code.proofs.hour_in.Tie as tie
@@ -13,32 +12,34 @@ element-copy-out-newest c = search needs
 slot-of-requires : tie.Need-slot-of-requires
 slot-of-requires c κs = search needs
 
-element-copy-out-slot-answer : tie.Need-element-copy-out-slot-answer
-element-copy-out-slot-answer c = search needs
+element-copy-out-slot-hour : tie.Need-element-copy-out-slot-hour
+element-copy-out-slot-hour c = search needs
 
-add-slot-answer : tie.Need-add-slot-answer
-add-slot-answer c = search needs
+add-slot-hour : tie.Need-add-slot-hour
+add-slot-hour c = search needs
 
-mul-slot-answer : tie.Need-mul-slot-answer
-mul-slot-answer c = search needs
+mul-slot-hour : tie.Need-mul-slot-hour
+mul-slot-hour c = search needs
 
-element-copy-out-slot-answer-2 : tie.Need-element-copy-out-slot-answer-2
-element-copy-out-slot-answer-2 c = search needs
+element-copy-out-slot-hour-2 : tie.Need-element-copy-out-slot-hour-2
+element-copy-out-slot-hour-2 c = search needs
 
-add-slot-answer-2 : tie.Need-add-slot-answer-2
-add-slot-answer-2 c = search needs
+add-slot-hour-2 : tie.Need-add-slot-hour-2
+add-slot-hour-2 c = search needs
 
-mul-slot-answer-2 : tie.Need-mul-slot-answer-2
-mul-slot-answer-2 c = search needs
+mul-slot-hour-2 : tie.Need-mul-slot-hour-2
+mul-slot-hour-2 c = search needs
 
-element-copy-out-slot-answer-3 : tie.Need-element-copy-out-slot-answer-3
-element-copy-out-slot-answer-3 c = search needs
+element-copy-out-slot-hour-3 : tie.Need-element-copy-out-slot-hour-3
+element-copy-out-slot-hour-3 c = search needs
 
-slot-answer-requires : tie.Need-slot-answer-requires
-slot-answer-requires c κs = search needs
+slot-hour-requires : tie.Need-slot-hour-requires
+slot-hour-requires c κs = search needs
 
 returns-2 : tie.Need-returns-2
-returns-2 c = answers-in (c .before .before .before .before .before .before .before .args .cells .now) (c .before .before .before .before .before .before .before .args .age) (c .before .before .before .before .slot-of .result) (c .slot-answer .result) (c .before .before .before .before .before .before .if1 .left) (c .before .before .before .before .slot-of .ensures) (omega (arith, c .before .before .before .before .slot-of .ensures)) (c .slot-answer .ensures)
+returns-2 c =
+    let a = c .before .before .before .before .before .before .before .args in
+    answers _ (slot-told-in (a .cells .now) (a .age) _ (c .before .before .before .before .before .before .if1 .left) (c .before .before .before .before .slot-of .ensures)) (c .slot-hour .ensures)
 
 pub hour-in-spec : {M : Type 1} → statement M
 hour-in-spec =
@@ -47,12 +48,12 @@ hour-in-spec =
     returns
     element-copy-out-newest
     slot-of-requires
-    element-copy-out-slot-answer
-    add-slot-answer
-    mul-slot-answer
-    element-copy-out-slot-answer-2
-    add-slot-answer-2
-    mul-slot-answer-2
-    element-copy-out-slot-answer-3
-    slot-answer-requires
+    element-copy-out-slot-hour
+    add-slot-hour
+    mul-slot-hour
+    element-copy-out-slot-hour-2
+    add-slot-hour-2
+    mul-slot-hour-2
+    element-copy-out-slot-hour-3
+    slot-hour-requires
     returns-2)
