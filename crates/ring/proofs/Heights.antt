@@ -69,18 +69,19 @@ module _ (r : Ring) (hours : ℕ) where
   heights-none heights h n =
       let e : hours - 0 ≡ hours = omega arith in record { few = h; upto = omega arith; size = n; told = ap (heightsOf r) e }
 
-  pub heights-more : (heights : List ℕ) (i v : ℕ) → HeightsTo r hours heights i → i < hours → v ≡ hourIn r (hours - 1 - i) .height
+  pub heights-more : (heights : List ℕ) (i v : ℕ) (t : Telling) → HeightsTo r hours heights i → i < hours → v ≡ t .height → t ≡ hourIn r (hours - 1 - i)
       → HeightsTo r hours (set heights i v) (i + 1)
   unfolding heightsOf
-  heights-more heights i v t h e =
+  heights-more heights i v t to h f g =
       let left : ℕ = hours - 1 - i in
       let here : hours - i ≡ suc left = omega arith in
       let next : hours - suc i ≡ left = omega arith in
+      let e : v ≡ hourIn r left .height = f ∙ ap (λ (x : Telling). x .height) g in
       record {
-        few = t .few;
+        few = to .few;
         upto = omega arith;
-        size = length-set heights i v ∙ t .size;
-        told = rw (add-one i, take-suc-set heights i v (omega arith), append-snoc, e, next) (rw here at (t .told));
+        size = length-set heights i v ∙ to .size;
+        told = rw (add-one i, take-suc-set heights i v (omega arith), append-snoc, e, next) (rw here at (to .told));
       }
 
   pub heights-all : (heights : List ℕ) (i : ℕ) → HeightsTo r hours heights i → hours ≤ i → (take hours heights ≡ heightsOf r hours) × (length heights ≡ 24)

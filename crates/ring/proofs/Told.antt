@@ -1,7 +1,7 @@
 -- What is told of an hour, as an answer.
 use Prim.Native.Nat.{ℕ, _+_, _-_, _≤_, _<_}
 use native.Mathlib.Omega.{arith}
-use mathlib.Core.Path.{_≡_, refl, sym, ap, _∙_}
+use mathlib.Core.Path.{_≡_, refl, ap, _∙_}
 use mathlib.Core.Bool.{Bool, true, false, not, _&&_}
 use mathlib.Core.List.{List}
 use lib.ListN.{getD, take, drop}
@@ -43,6 +43,10 @@ pub slot-told : (r : Ring) (age k : ℕ) → age ≤ 511 → k ≡ slotOf (r .ne
 unfolding hourIn
 slot-told r age k h s = rw (s, le-leb age 511 h)
 
+pub slot-tells : (r : Ring) (age k : ℕ) (t : Telling) → age ≤ 511 → k ≡ slotOf (r .newest) age
+    → t ≡ slotHour (r .any) (r .newest) (getD (r .numbers) k 0) (getD (r .heights) k 0) age → t ≡ hourIn r age
+slot-tells r age k t h s e = e ∙ slot-told r age k h s
+
 -- the same of a ring as a C caller holds it
 number-in : (cells : List ℕ) (k : ℕ) → k < 512 → getD (take 512 (drop 2 cells)) k 0 ≡ getD cells (2 + k) 0
 number-in cells k h = getD-take 512 (drop 2 cells) k 0 h ∙ getD-drop 2 cells k 0
@@ -65,17 +69,3 @@ hour-past r age h = rw (lt-leb age 511 h)
 pub refuses : (r : Ring) (age : ℕ) → 511 < age → Answers (Refused 27) (hourIn r age)
 unfolding tellingOf hourOf
 refuses r age h = answers (Refused 27) (hour-past r age h) (refl, refl)
-
--- the height of the answer is that of the slot
-pub answer-height : {h a : Hour} {t : Telling} → tellingOf h ≡ t → h ≡ a → tellingOf a .height ≡ t .height
-answer-height e d = ap (λ (x : Hour). tellingOf x .height) (sym d) ∙ ap (λ (x : Telling). x .height) e
-
--- the height that the slot tells is that of the hour
-pub height-told : (r : Ring) (age k v : ℕ) → age ≤ 511 → k ≡ slotOf (r .newest) age
-    → v ≡ slotHour (r .any) (r .newest) (getD (r .numbers) k 0) (getD (r .heights) k 0) age .height → v ≡ hourIn r age .height
-height-told r age k v h s e = e ∙ ap (λ (x : Telling). x .height) (slot-told r age k h s)
-
-pub height-told-in : (cells : List ℕ) (age k v : ℕ) → age ≤ 511 → k ≡ slotOf (getD cells 1 0) age
-    → v ≡ slotHour (getD cells 0 0) (getD cells 1 0) (getD cells (2 + k) 0) (getD cells (514 + k) 0) age .height
-    → v ≡ hourIn (ringIn cells) age .height
-height-told-in cells age k v h s e = e ∙ ap (λ (x : Telling). x .height) (slot-told-in cells age k h s)

@@ -175,11 +175,11 @@ pub fn hour_in(cells: &[u16; 1026], age: u32) -> Hour
     slot_hour(cells[0], newest, cells[2 + k], cells[514 + k], age)
 }
 
-// The height that is told of the hour of an age from its slot; 0 where there is none.
-fn slot_height(any: u16, newest: u16, number: u16, held: u16, age: u32) -> u32
-    ensures { λ r. ⌜ r ≡ slotHour any newest number held age .height ⌝ }
+// The height that is told of an hour; 0 where there is none.
+fn height_of(hour: Hour) -> u32
+    ensures { λ r. ⌜ r ≡ tellingOf hour .height ⌝ }
 {
-    match slot_hour(any, newest, number, held, age) {
+    match hour {
         Hour::Sample(height) => height,
         Hour::Blank => 0,
         Hour::Refused(_) => 0,
@@ -197,13 +197,8 @@ pub fn heights_of(ring: Ring, hours: u32) -> [u32; 24]
     while i < hours {
         let age = hours - 1 - i;
         let k = slot_of(ring.newest, age);
-        heights[i as usize] = slot_height(
-            ring.any,
-            ring.newest,
-            ring.numbers[k],
-            ring.heights[k],
-            age,
-        );
+        let hour = slot_hour(ring.any, ring.newest, ring.numbers[k], ring.heights[k], age);
+        heights[i as usize] = height_of(hour);
         i += 1;
     }
     heights
@@ -215,14 +210,11 @@ pub fn heights_in(cells: &[u16; 1026], hours: u32) -> [u32; 24]
     ensures { λ r. ⌜ take hours r ≡ heightsOf (ringIn (now (cells .entry))) hours ⌝ }
     ensures { λ r. ⌜ length r ≡ 24 ⌝ }
 {
-    let any = cells[0];
-    let newest = cells[1];
     let mut heights = [0u32; 24];
     let mut i = 0;
     while i < hours {
-        let age = hours - 1 - i;
-        let k = slot_of(newest, age);
-        heights[i as usize] = slot_height(any, newest, cells[2 + k], cells[514 + k], age);
+        let hour = hour_in(cells, hours - 1 - i);
+        heights[i as usize] = height_of(hour);
         i += 1;
     }
     heights

@@ -3,7 +3,7 @@ use native.Mathlib.Omega.{arith}
 use mathlib.Core.Path.{refl}
 use Prim.Native.Nat.{_-_}
 use Rattle.ring.proofs.Heights.{HeightsTo, heights-none, heights-more, heights-all}
-use Rattle.ring.proofs.Told.{height-told}
+use Rattle.ring.proofs.Told.{slot-tells}
 use Rattle.ring_code.proofs.heights_of.Statement.{statement}
 use Rattle.ring_code.proofs.heights_of.Tie as tie
 
@@ -25,20 +25,23 @@ sub-age-2 c = search needs
 slot-of-requires : tie.Need-slot-of-requires Inv-loop μ-loop
 slot-of-requires c κs = search needs
 
-mul-slot-height : tie.Need-mul-slot-height Inv-loop μ-loop
-mul-slot-height c = search needs
+mul-slot-hour : tie.Need-mul-slot-hour Inv-loop μ-loop
+mul-slot-hour c = search needs
 
-element-copy-out-slot-height : tie.Need-element-copy-out-slot-height Inv-loop μ-loop
-element-copy-out-slot-height c = search needs
+element-copy-out-slot-hour : tie.Need-element-copy-out-slot-hour Inv-loop μ-loop
+element-copy-out-slot-hour c = search needs
 
-mul-slot-height-2 : tie.Need-mul-slot-height-2 Inv-loop μ-loop
-mul-slot-height-2 c = search needs
+mul-slot-hour-2 : tie.Need-mul-slot-hour-2 Inv-loop μ-loop
+mul-slot-hour-2 c = search needs
 
-element-copy-out-slot-height-2 : tie.Need-element-copy-out-slot-height-2 Inv-loop μ-loop
-element-copy-out-slot-height-2 c = search needs
+element-copy-out-slot-hour-2 : tie.Need-element-copy-out-slot-hour-2 Inv-loop μ-loop
+element-copy-out-slot-hour-2 c = search needs
 
-slot-height-requires : tie.Need-slot-height-requires Inv-loop μ-loop
-slot-height-requires c κs = search needs
+slot-hour-requires : tie.Need-slot-hour-requires Inv-loop μ-loop
+slot-hour-requires c κs = search needs
+
+height-of-requires : tie.Need-height-of-requires Inv-loop μ-loop
+height-of-requires c κs = search needs
 
 cast-heights : tie.Need-cast-heights Inv-loop μ-loop
 cast-heights c = search needs
@@ -57,10 +60,11 @@ loop-less c = search needs
 
 loop-again : tie.Need-loop-again Inv-loop μ-loop
 loop-again c =
-    let a = c .before .before .before .before .before .before .args in
-    let l = c .before .before .before .before .before .loop in
-    heights-more (a .t1) (a .hours) (l .heights) (l .i) _ (l .inv) (c .before .before .before .before .loop-test .taken)
-    (height-told (a .t1) (a .hours - 1 - l .i) (c .before .before .before .slot-of .result) _ (omega (arith, l .inv)) (c .before .before .before .slot-of .ensures) (c .slot-height .ensures))
+    let a = c .before .before .before .before .before .before .before .args in
+    let l = c .before .before .before .before .before .before .loop in
+    heights-more (a .t1) (a .hours) (l .heights) (l .i) _ _ (l .inv) (c .before .before .before .before .before .loop-test .taken) (c .height-of .ensures)
+    (slot-tells (a .t1) (a .hours - 1 - l .i) (c .before .before .before .before .slot-of .result) _ (omega (arith, l .inv)) (c .before .before .before .before .slot-of .ensures)
+    (c .before .slot-hour .ensures .0))
 
 returns : tie.Need-returns Inv-loop μ-loop
 returns c =
@@ -78,11 +82,12 @@ heights-of-spec =
     sub-age
     sub-age-2
     slot-of-requires
-    mul-slot-height
-    element-copy-out-slot-height
-    mul-slot-height-2
-    element-copy-out-slot-height-2
-    slot-height-requires
+    mul-slot-hour
+    element-copy-out-slot-hour
+    mul-slot-hour-2
+    element-copy-out-slot-hour-2
+    slot-hour-requires
+    height-of-requires
     cast-heights
     mul-heights
     array-write-heights
