@@ -111,14 +111,14 @@ pub fn strip_in<'a>(
     ensures { λ r. ⌜ now (list .exit) ≡ listAfter (stripFor (ringIn (now (cells .entry))) a (now (site .entry)) (now (factory .entry))) (now (list .entry)) (now (words .entry)) ⌝ }
     ensures { λ r. ⌜ now (words .exit) ≡ wordsAfter (stripFor (ringIn (now (cells .entry))) a (now (site .entry)) (now (factory .entry))) (now (list .entry)) (now (words .entry)) ⌝ }
 {
-    let fault = fault_of(a, factory.len() as u64);
-    if fault != 0 {
-        return StripAnswer::Refused(fault);
+    let wrong = fault_of(a, factory.len() as u64);
+    if wrong != 0 {
+        return StripAnswer::Refused(wrong);
     }
-    let heights = ring_code::heights_in(cells, a.hours);
+    let told = ring_code::heights_in(cells, a.hours);
     let d = wear_glyph::digits_in(cells[0], cells[1]);
     let n = a.hours as usize;
     let k = d.count as usize;
     let digits = d.digits;
-    make_strip(a, &heights[..n], &digits[..k], site, factory, list, words)
+    make_strip(a, &told[..n], &digits[..k], site, factory, list, words)
 }

@@ -40,8 +40,8 @@ cast-n c = search needs
 cast-k : tie.Need-cast-k
 cast-k c = search needs
 
-array-share-prefix-heights : tie.Need-array-share-prefix-heights
-array-share-prefix-heights c = omega (arith, c .before .before .before .before .before .before .heights-in .ensures .1, asked-hours _ _ (sym (c .before .before .before .before .before .before .before .before .fault-of .ensures) ∙ c .before .before .before .before .before .before .before .if1 .left) .1)
+array-share-prefix-told : tie.Need-array-share-prefix-told
+array-share-prefix-told c = omega (arith, c .before .before .before .before .before .before .heights-in .ensures .1, asked-hours _ _ (sym (c .before .before .before .before .before .before .before .before .fault-of .ensures) ∙ c .before .before .before .before .before .before .before .if1 .left) .1)
 
 slice-aggregate-make-strip : tie.Need-slice-aggregate-make-strip
 slice-aggregate-make-strip c = sym (length-take-le _ _ (omega (arith, c .before .before .before .before .before .before .before .heights-in .ensures .1, asked-hours _ _ (sym (c .before .before .before .before .before .before .before .before .before .fault-of .ensures) ∙ c .before .before .before .before .before .before .before .before .if1 .left) .1)))
@@ -76,7 +76,7 @@ strip-in-spec =
     digits-in-requires
     cast-n
     cast-k
-    array-share-prefix-heights
+    array-share-prefix-told
     slice-aggregate-make-strip
     array-share-prefix-digits
     slice-aggregate-make-strip-2
