@@ -10,14 +10,10 @@ use Rattle.command.specs.declared.Command.{Command}
 use Rattle.ring.specs.Kept.{emptyRing, takes, hoursOn, blanked, withSample, taking, slotHour, hourIn, ringAfter, heightsOf}
 use Rattle.ring.specs.declared.Ring.{Ring}
 use Rattle.wear.specs.Font.{finding, glyphOf, glyphBit, lastDigits}
-use Rattle.wear.specs.Strip.{digitsIn, Strip, stripWith, stripFor, column, columns, writes, stripCommands, listBytes, stripList, glyphColour, glyphWord, glyphWords, digitWords, stripWords, allInReach, askRows, stripRows, stripping, listAfter, wordsAfter, strippingOf, answerOf}
+use Rattle.wear.specs.Strip.{askWith, digitsIn, Strip, stripWith, stripFor, column, columns, writes, stripCommands, listBytes, stripList, glyphColour, glyphWord, glyphWords, digitWords, stripWords, allInReach, askRows, stripRows, stripping, listAfter, wordsAfter, strippingOf, answerOf}
 use Rattle.wear.specs.Limits.{commandCount}
 use Rattle.wear.specs.declared.Ask.{Ask}
 use Rattle.wear.specs.declared.StripAnswer.the-variants.{Made, Refused}
-
-abbrev ask : ℕ → ℕ → ℕ → ℕ → ℕ → ℕ → ℕ → Ask
-ask hours depth x y column bar background =
-    record { hours = hours; depth = depth; x = x; y = y; column = column; bar = bar; background = background }
 
 abbrev command : ℕ → ℕ → ℕ → ℕ → ℕ → ℕ → ℕ → Command
 command operation raster x y width height colour =
@@ -26,7 +22,7 @@ command operation raster x y width height colour =
 -- ---- the commands
 -- three hours of heights 0, 100 and 37 at (10, 20), 3 pixels each, bars of colour 5 on 9
 abbrev three : Ask
-three = ask 3 8 10 20 3 5 9
+three = askWith 3 8 10 20 3 5 9
 
 pub column-cases : columns three 0 (0 ∷ 100 ∷ 37 ∷ [])
     ≡ command 0 0 10 20 3 100 9
@@ -63,7 +59,7 @@ strip-cases = (refl, refl, refl)
 
 -- its bytes, for one hour and one digit
 abbrev one : Ask
-one = ask 1 8 10 20 3 5 9
+one = askWith 1 8 10 20 3 5 9
 
 pub byte-cases : stripList (stripWith one (0 ∷ []) (7 ∷ []) [] font)
     ≡ (0 ∷ 0 ∷ 0 ∷ 0 ∷ 10 ∷ 0 ∷ 20 ∷ 0 ∷ 3 ∷ 0 ∷ 100 ∷ 0 ∷ 0 ∷ 0 ∷ 0 ∷ 0 ∷ 9 ∷ 0 ∷ replicate 14 0)
@@ -85,7 +81,7 @@ ring-cases = (refl, refl, refl)
 -- a glyph's at depth 8, two pixels a word with the left one low, and at depth 16
 pub word-cases : (glyphWords one (take 8 font)
     ≡ (2309 ∷ 2313 ∷ 2313 ∷ 1289 ∷ 1289 ∷ 2313 ∷ 2313 ∷ 2313 ∷ []) ++ replicate 20 2313 ++ replicate 4 1285)
-    × (glyphWords (ask 1 16 10 20 3 500 9) (take 8 font)
+    × (glyphWords (askWith 1 16 10 20 3 500 9) (take 8 font)
     ≡ (500 ∷ 9 ∷ 9 ∷ 9 ∷ 9 ∷ 9 ∷ 9 ∷ 500 ∷ 9 ∷ 500 ∷ 9 ∷ 9 ∷ 9 ∷ 9 ∷ 9 ∷ 9 ∷ []) ++ replicate 40 9 ++ replicate 8 500)
 unfolding lineWords glyphBit glyphColour glyphWord glyphWords
 word-cases = (refl, refl)
@@ -107,22 +103,22 @@ abbrev numberAt : Ask → List ℕ → List ℕ → ℕ
 numberAt a heights digits = stripping (stripAt a heights digits) 2048 400 .number
 
 -- depth, colours, hours and column width, at their limits and past them
-pub ask-cases : numberAt (ask 1 8 0 0 3 255 255) (7 ∷ []) []
-    ∷ numberAt (ask 1 0 0 0 3 5 9) (7 ∷ []) []
-    ∷ numberAt (ask 1 3 0 0 3 5 9) (7 ∷ []) []
-    ∷ numberAt (ask 1 32 0 0 3 5 9) (7 ∷ []) []
-    ∷ numberAt (ask 1 1 0 0 3 5 9) (7 ∷ []) []
-    ∷ numberAt (ask 1 4 0 0 3 256 256) (7 ∷ []) []
-    ∷ numberAt (ask 1 8 0 0 3 256 9) (7 ∷ []) []
-    ∷ numberAt (ask 1 8 0 0 3 5 256) (7 ∷ []) []
-    ∷ numberAt (ask 1 16 0 0 3 65535 65535) (7 ∷ []) []
-    ∷ numberAt (ask 0 8 0 0 3 5 9) [] []
-    ∷ numberAt (ask 25 8 0 0 3 5 9) (replicate 25 0) []
-    ∷ numberAt (ask 24 8 0 0 3 5 9) (replicate 24 0) []
-    ∷ numberAt (ask 1 8 0 0 0 5 9) (7 ∷ []) []
-    ∷ numberAt (ask 1 8 0 0 17 5 9) (7 ∷ []) []
-    ∷ numberAt (ask 1 8 0 0 1 5 9) (7 ∷ []) []
-    ∷ numberAt (ask 1 8 0 0 16 5 9) (7 ∷ []) []
+pub ask-cases : numberAt (askWith 1 8 0 0 3 255 255) (7 ∷ []) []
+    ∷ numberAt (askWith 1 0 0 0 3 5 9) (7 ∷ []) []
+    ∷ numberAt (askWith 1 3 0 0 3 5 9) (7 ∷ []) []
+    ∷ numberAt (askWith 1 32 0 0 3 5 9) (7 ∷ []) []
+    ∷ numberAt (askWith 1 1 0 0 3 5 9) (7 ∷ []) []
+    ∷ numberAt (askWith 1 4 0 0 3 256 256) (7 ∷ []) []
+    ∷ numberAt (askWith 1 8 0 0 3 256 9) (7 ∷ []) []
+    ∷ numberAt (askWith 1 8 0 0 3 5 256) (7 ∷ []) []
+    ∷ numberAt (askWith 1 16 0 0 3 65535 65535) (7 ∷ []) []
+    ∷ numberAt (askWith 0 8 0 0 3 5 9) [] []
+    ∷ numberAt (askWith 25 8 0 0 3 5 9) (replicate 25 0) []
+    ∷ numberAt (askWith 24 8 0 0 3 5 9) (replicate 24 0) []
+    ∷ numberAt (askWith 1 8 0 0 0 5 9) (7 ∷ []) []
+    ∷ numberAt (askWith 1 8 0 0 17 5 9) (7 ∷ []) []
+    ∷ numberAt (askWith 1 8 0 0 1 5 9) (7 ∷ []) []
+    ∷ numberAt (askWith 1 8 0 0 16 5 9) (7 ∷ []) []
     ∷ []
     ≡ 0 ∷ 2 ∷ 2 ∷ 2 ∷ 11 ∷ 11 ∷ 12 ∷ 12 ∷ 0 ∷ 27 ∷ 27 ∷ 0 ∷ 27 ∷ 27 ∷ 0 ∷ 0 ∷ []
 unfolding isDepth firstOf commandBytes lineWords column columns writes stripCommands listBytes digitWords allInReach askRows stripRows stripping
@@ -138,17 +134,17 @@ unfolding isDepth firstOf commandBytes lineWords finding glyphOf glyphBit glyphC
 font-cases = refl
 
 -- x and y of what is written: the last column's x; a digit's y, none without a sample; a bar's y, none at height 0; the last digit's x
-pub reach-cases : numberAt (ask 2 8 65532 0 3 5 9) (0 ∷ 0 ∷ []) []
-    ∷ numberAt (ask 2 8 65533 0 3 5 9) (0 ∷ 0 ∷ []) []
-    ∷ numberAt (ask 1 8 65535 0 16 5 9) (0 ∷ []) []
-    ∷ numberAt (ask 1 8 0 65435 3 5 9) (0 ∷ []) (1 ∷ [])
-    ∷ numberAt (ask 1 8 0 65436 3 5 9) (0 ∷ []) (1 ∷ [])
-    ∷ numberAt (ask 1 8 0 65436 3 5 9) (0 ∷ []) []
-    ∷ numberAt (ask 1 8 0 65535 3 5 9) (100 ∷ []) []
-    ∷ numberAt (ask 1 8 0 65535 3 5 9) (99 ∷ []) []
-    ∷ numberAt (ask 1 8 0 65535 3 5 9) (0 ∷ []) []
-    ∷ numberAt (ask 1 8 65527 0 3 5 9) (0 ∷ []) (1 ∷ 2 ∷ [])
-    ∷ numberAt (ask 1 8 65528 0 3 5 9) (0 ∷ []) (1 ∷ 2 ∷ [])
+pub reach-cases : numberAt (askWith 2 8 65532 0 3 5 9) (0 ∷ 0 ∷ []) []
+    ∷ numberAt (askWith 2 8 65533 0 3 5 9) (0 ∷ 0 ∷ []) []
+    ∷ numberAt (askWith 1 8 65535 0 16 5 9) (0 ∷ []) []
+    ∷ numberAt (askWith 1 8 0 65435 3 5 9) (0 ∷ []) (1 ∷ [])
+    ∷ numberAt (askWith 1 8 0 65436 3 5 9) (0 ∷ []) (1 ∷ [])
+    ∷ numberAt (askWith 1 8 0 65436 3 5 9) (0 ∷ []) []
+    ∷ numberAt (askWith 1 8 0 65535 3 5 9) (100 ∷ []) []
+    ∷ numberAt (askWith 1 8 0 65535 3 5 9) (99 ∷ []) []
+    ∷ numberAt (askWith 1 8 0 65535 3 5 9) (0 ∷ []) []
+    ∷ numberAt (askWith 1 8 65527 0 3 5 9) (0 ∷ []) (1 ∷ 2 ∷ [])
+    ∷ numberAt (askWith 1 8 65528 0 3 5 9) (0 ∷ []) (1 ∷ 2 ∷ [])
     ∷ []
     ≡ 0 ∷ 27 ∷ 0 ∷ 0 ∷ 27 ∷ 0 ∷ 0 ∷ 27 ∷ 0 ∷ 0 ∷ 27 ∷ []
 unfolding isDepth firstOf commandBytes lineWords finding glyphOf glyphBit glyphColour glyphWord glyphWords column columns writes stripCommands listBytes digitWords allInReach askRows stripRows stripping
@@ -158,12 +154,12 @@ reach-cases = refl
 pub room-cases : stripping (stripAt one (7 ∷ []) (1 ∷ [])) 96 32
     ∷ stripping (stripAt one (7 ∷ []) (1 ∷ [])) 95 32
     ∷ stripping (stripAt one (7 ∷ []) (1 ∷ [])) 96 31
-    ∷ stripping (stripAt (ask 1 16 10 20 3 5 9) (7 ∷ []) (1 ∷ [])) 96 64
-    ∷ stripping (stripAt (ask 1 16 10 20 3 5 9) (7 ∷ []) (1 ∷ [])) 96 63
+    ∷ stripping (stripAt (askWith 1 16 10 20 3 5 9) (7 ∷ []) (1 ∷ [])) 96 64
+    ∷ stripping (stripAt (askWith 1 16 10 20 3 5 9) (7 ∷ []) (1 ∷ [])) 96 63
     ∷ stripping (stripAt one (0 ∷ []) []) 32 0
-    ∷ stripping (stripAt (ask 1 8 0 65535 3 5 9) (99 ∷ []) []) 0 0
-    ∷ stripping (stripAt (ask 0 8 0 0 3 256 9) (7 ∷ []) []) 0 0
-    ∷ stripping (stripAt (ask 0 8 0 0 3 5 9) (7 ∷ []) []) 0 0
+    ∷ stripping (stripAt (askWith 1 8 0 65535 3 5 9) (99 ∷ []) []) 0 0
+    ∷ stripping (stripAt (askWith 0 8 0 0 3 256 9) (7 ∷ []) []) 0 0
+    ∷ stripping (stripAt (askWith 0 8 0 0 3 5 9) (7 ∷ []) []) 0 0
     ∷ []
     ≡ record { number = 0; bytes = 96; words = 32 }
     ∷ record { number = 17; bytes = 0; words = 0 }
