@@ -1,17 +1,17 @@
--- The strip depends on the accepted samples alone, besides what the caller gives.
+-- The strip depends on the accepted samples alone, besides what the caller gives, and has the newest one's number below it.
 use Prim.Native.Nat.{ℕ, zero, suc}
 use mathlib.Core.Path.{_≡_, refl, sym, ap, subst, _∙_}
 use mathlib.Core.Bool.{Bool, cond}
 use mathlib.Core.List.{List, [], _∷_}
 use lib.Dec.{eqb}
-use Rattle.ring.specs.Samples.{Sample, accepted}
+use Rattle.ring.specs.Samples.{Sample, accepted, newestOf}
 use Rattle.ring.specs.Kept.{emptyRing, ringAfter, hourIn, heightsOf}
-use Rattle.ring.specs.Claims.{TellsOf}
+use Rattle.ring.specs.Claims.{isNone, TellsOf}
 use Rattle.ring.specs.declared.Ring.{Ring}
 use Rattle.ring.proofs.Tells.{ring-tells}
 use Rattle.wear.specs.Font.{digitsOf}
 use Rattle.wear.specs.Strip.{stripWith, digitsIn}
-use Rattle.wear.specs.Claims.{SameStrip}
+use Rattle.wear.specs.Claims.{SameStrip, NewestBelow}
 
 same-heights : (r q : Ring) → ((age : ℕ) → hourIn r age ≡ hourIn q age) → (n : ℕ) → heightsOf r n ≡ heightsOf q n
 unfolding heightsOf
@@ -35,3 +35,9 @@ same-strip came others f g e ask site factory =
     let a : TellsOf (accepted came) r = ring-tells came f in
     let b : TellsOf (accepted came) q = subst (λ (x : List Sample). TellsOf x q) (sym e) (ring-tells others g) in
     λ t. stripWith ask (same-heights r q (same-hours (accepted came) r q a b) (ask .hours) t) (same-digits (accepted came) r q a b t) site factory
+
+pub newest-below : NewestBelow
+newest-below came f ask site factory =
+    let r = ringAfter emptyRing came in
+    let t = ring-tells came f in
+    ap (λ (x : Bool). cond x [] (digitsOf (r .newest))) (t .any) ∙ ap (λ (n : ℕ). cond (isNone (accepted came)) [] (digitsOf n)) (t .newest)
