@@ -5,3 +5,4 @@ pub mod Ages
 pub mod Runs
 pub mod Tells
 pub mod Cases
+pub mod Caller
