@@ -1,12 +1,13 @@
 // Digits and their glyphs: which font has one, and the host words that draw it.
 ghost use mathlib.Core.Path.{_≡_};
 ghost use Prim.Native.Nat.{_+_, _*_, _≤_, _<_};
+ghost use mathlib.Core.List.{[], _∷_};
 ghost use lib.ListN.{length, take};
 ghost use lib.Seq.{sets};
 ghost use Rattle.record.specs.Lists.{AllBelow};
 ghost use Rattle.command.specs.Command.{lineWords};
 ghost use Rattle.wear.specs.Font.{finding, findingOf, GlyphPart, digitsOf};
-ghost use Rattle.wear.specs.Strip.{digitsIn, glyphColour, glyphWord, glyphWords, digitWords};
+ghost use Rattle.wear.specs.Strip.{digitsIn, glyphWords, digitWords};
 ghost use Rattle.wear.specs.Limits.{Checked};
 use wear::Ask;
 use wear::Digits;
@@ -100,38 +101,95 @@ pub fn digits_in(any: u16, newest: u16) -> Digits
     digits_of(newest)
 }
 
-// The colour of pixel (i, j) of a glyph; looked up, since a branch on each pixel is slow.
-fn glyph_colour(a: Ask, glyph: &[u8], i: u32, j: usize) -> u16
-    requires { ⌜ j < length (now glyph) ⌝ }
-    requires { ⌜ i ≤ 7 ⌝ }
-    ensures { λ r. ⌜ r ≡ glyphColour a (now (glyph .entry)) i j ⌝ }
-{
-    let row = record_code::wide(glyph[j]);
-    let bit = (row >> (7 - i)) % 2;
-    let colours = [a.background, a.bar];
-    colours[bit as usize]
-}
-
-// Word k of a glyph's host words.
-fn glyph_word(a: Ask, glyph: &[u8], k: usize) -> u16
-    requires { ⌜ Checked a ⌝ }
-    requires { ⌜ length (now glyph) ≡ 8 ⌝ }
-    requires { ⌜ k < 8 * lineWords (a .depth) 8 ⌝ }
-    ensures { λ r. ⌜ r ≡ glyphWord a (now (glyph .entry)) k ⌝ }
-{
-    if a.depth == 8 {
-        let low = glyph_colour(a, glyph, 2 * (k % 4) as u32, k / 4) as u32;
-        let high = glyph_colour(a, glyph, 2 * (k % 4) as u32 + 1, k / 4) as u32;
-        return (low + 256 * high) as u16;
-    }
-    glyph_colour(a, glyph, (k % 8) as u32, k / 8)
-}
-
 // How many host words a glyph has.
 pub fn words_per_glyph(a: Ask) -> usize
     ensures { λ r. ⌜ r ≡ 8 * lineWords (a .depth) 8 ⌝ }
 {
     if a.depth == 8 { 32 } else { 64 }
+}
+
+// Stores four words at `at`.
+fn put_four(words: &mut [u16], at: usize, first: u16, second: u16, third: u16, fourth: u16)
+    requires { ⌜ at + 4 ≤ length (now words) ⌝ }
+    ensures { λ _. ⌜ now (words .exit) ≡ sets (now (words .entry)) at (first ∷ second ∷ third ∷ fourth ∷ []) ⌝ }
+{
+    words[at] = first;
+    words[at + 1] = second;
+    words[at + 2] = third;
+    words[at + 3] = fourth;
+}
+
+// The words of two pixels at depth 8 by their bits 00, 01, 10 and 11: the left pixel in the low byte.
+fn pairs(a: Ask) -> [u16; 4]
+    requires { ⌜ a .bar ≤ 255 ⌝ }
+    requires { ⌜ a .background ≤ 255 ⌝ }
+    ensures { λ r. ⌜ r ≡ (a .background + 256 * a .background) ∷ (a .background + 256 * a .bar) ∷ (a .bar + 256 * a .background) ∷ (a .bar + 256 * a .bar) ∷ [] ⌝ }
+{
+    let bar = a.bar as u32;
+    let back = a.background as u32;
+    let left = (bar + 256 * back) as u16;
+    let right = (back + 256 * bar) as u16;
+    [
+        (back + 256 * back) as u16,
+        right,
+        left,
+        (bar + 256 * bar) as u16,
+    ]
+}
+
+// Stores a glyph's host words at depth 8, four a line; looked up, since a branch on each pixel is slow.
+fn put_narrow(words: &mut [u16], at: usize, a: Ask, glyph: &[u8])
+    requires { ⌜ Checked a ⌝ }
+    requires { ⌜ a .depth ≡ 8 ⌝ }
+    requires { ⌜ length (now glyph) ≡ 8 ⌝ }
+    requires { ⌜ at + 32 ≤ length (now words) ⌝ }
+    ensures { λ _. ⌜ now (words .exit) ≡ sets (now (words .entry)) at (glyphWords a (now (glyph .entry))) ⌝ }
+{
+    let p = pairs(a);
+    let mut j = 0;
+    while j < 8 {
+        let row = record_code::wide(glyph[j]) as usize;
+        put_four(
+            words,
+            at + 4 * j,
+            p[(row >> 6) % 4],
+            p[(row >> 4) % 4],
+            p[(row >> 2) % 4],
+            p[row % 4],
+        );
+        j += 1;
+    }
+}
+
+// Stores a glyph's host words at another depth, eight a line.
+fn put_wide(words: &mut [u16], at: usize, a: Ask, glyph: &[u8])
+    requires { ⌜ (a .depth ≡ 8 → ⊥) ⌝ }
+    requires { ⌜ length (now glyph) ≡ 8 ⌝ }
+    requires { ⌜ at + 64 ≤ length (now words) ⌝ }
+    ensures { λ _. ⌜ now (words .exit) ≡ sets (now (words .entry)) at (glyphWords a (now (glyph .entry))) ⌝ }
+{
+    let p = [a.background, a.bar];
+    let mut j = 0;
+    while j < 8 {
+        let row = record_code::wide(glyph[j]) as usize;
+        put_four(
+            words,
+            at + 8 * j,
+            p[(row >> 7) % 2],
+            p[(row >> 6) % 2],
+            p[(row >> 5) % 2],
+            p[(row >> 4) % 2],
+        );
+        put_four(
+            words,
+            at + 8 * j + 4,
+            p[(row >> 3) % 2],
+            p[(row >> 2) % 2],
+            p[(row >> 1) % 2],
+            p[row % 2],
+        );
+        j += 1;
+    }
 }
 
 // Stores a glyph's host words at `at`.
@@ -141,12 +199,11 @@ fn put_glyph(words: &mut [u16], at: usize, a: Ask, glyph: &[u8])
     requires { ⌜ at + 8 * lineWords (a .depth) 8 ≤ length (now words) ⌝ }
     ensures { λ _. ⌜ now (words .exit) ≡ sets (now (words .entry)) at (glyphWords a (now (glyph .entry))) ⌝ }
 {
-    let n = words_per_glyph(a);
-    let mut k = 0;
-    while k < n {
-        words[at + k] = glyph_word(a, glyph, k);
-        k += 1;
+    if a.depth == 8 {
+        put_narrow(words, at, a, glyph);
+        return;
     }
+    put_wide(words, at, a, glyph);
 }
 
 // Stores the host words of digits.
