@@ -1,11 +1,12 @@
--- Laws of a glyph's host words line by line: each looked up by the bits of its pixels, and storing four at a time.
-use Prim.Native.Nat.{ℕ, zero, suc, _+_, _*_, _/_, _%_, _<_, _≤_}
+-- Laws of a glyph's host words: each looked up by the bits of its pixels, and storing them, at depth 8 a line at a time.
+use Prim.Native.Nat.{ℕ, zero, suc, _+_, _-_, _*_, _/_, _%_, _^_, _<_, _≤_}
 use mathlib.Core.Path.{_≡_, refl, ap, _∙_}
 use mathlib.Core.Bool.{cond}
 use mathlib.Core.List.{List, [], _∷_, _++_}
 use native.Mathlib.Nat.{suc-add}
+use native.Mathlib.Numerals.{add-one}
 use native.Mathlib.Omega.{arith}
-use lib.ListN.{length, getD}
+use lib.ListN.{length, getD, set}
 use lib.Seq.{sets, length-sets}
 use lib.Dec.{eqb}
 use borrow.Author.Tests.{eq-eqb, ne-eqb}
@@ -49,6 +50,10 @@ module _ (a : Ask) (g : List ℕ) where
   colour-word i j k v p t d m q h x = rw (t, ne-eqb (a .depth) 8 d, m, q, ← x) (by-bit v h)
 
 -- ---- storing
+tabulate-more : (k : ℕ) (f : ℕ → ℕ) → tabulate (suc k) f ≡ tabulate k f ++ (f k ∷ [])
+tabulate-more zero f = refl
+tabulate-more (suc k) f = ap (λ (l : List ℕ). f 0 ∷ l) (tabulate-more k (λ i. f (suc i)))
+
 -- four more
 tabulate-four : (k : ℕ) (f : ℕ → ℕ) → tabulate (k + 4) f ≡ tabulate k f ++ (f k ∷ f (k + 1) ∷ f (k + 2) ∷ f (k + 3) ∷ [])
 tabulate-four zero f = refl
@@ -92,26 +97,13 @@ module _ (a : Ask) (g : List ℕ) (at : ℕ) (old l : List ℕ) where
       (pair-word a g 2 j (4 * j + 2) (row / 4 % 4) pairs t d (omega arith) (omega arith) (omega arith) (omega (arith, r)) (omega (arith, r)))
       (pair-word a g 3 j (4 * j + 3) (row % 4) pairs t d (omega arith) (omega arith) (omega arith) (omega (arith, r)) (omega (arith, r)))
 
--- a line at another depth, in two halves
-module _ (a : Ask) (g : List ℕ) (at : ℕ) (old l : List ℕ) (j row : ℕ) (p : List ℕ) (t : p ≡ colours a) (d : a .depth ≡ 8 → ⊥) (r : row ≡ byteAt g j) (h : j < 8) where
-  pub left-turn : (mid : List ℕ) → Glyphing a g at 64 old l (8 * j)
-      → mid ≡ sets l (at + 8 * j) (getD p (row / 128 % 2) 0 ∷ getD p (row / 64 % 2) 0 ∷ getD p (row / 32 % 2) 0 ∷ getD p (row / 16 % 2) 0 ∷ [])
-      → Glyphing a g at 64 old mid (8 * j + 4)
+  -- a pixel at another depth
+  pub pixel-turn : (k row : ℕ) (p : List ℕ) → (a .depth ≡ 8 → ⊥) → p ≡ colours a → row ≡ byteAt g (k / 8) → Glyphing a g at 64 old l k → k < 64 → Glyphing a g at 64 old (set l (at + k) (getD p (row / 2 ^ (7 - k % 8) % 2) 0)) (k + 1)
   unfolding glyphBit
-  left-turn mid q s =
-      four-turn a g at old l 64 (8 * j) (at + 8 * j) (8 * j + 4) _ _ _ _ mid q (omega arith) refl refl s
-      (colour-word a g 0 j (8 * j) (row / 128 % 2) p t d (omega arith) (omega arith) (omega arith) (omega (arith, r)))
-      (colour-word a g 1 j (8 * j + 1) (row / 64 % 2) p t d (omega arith) (omega arith) (omega arith) (omega (arith, r)))
-      (colour-word a g 2 j (8 * j + 2) (row / 32 % 2) p t d (omega arith) (omega arith) (omega arith) (omega (arith, r)))
-      (colour-word a g 3 j (8 * j + 3) (row / 16 % 2) p t d (omega arith) (omega arith) (omega arith) (omega (arith, r)))
-
-  pub right-turn : (new : List ℕ) → Glyphing a g at 64 old l (8 * j + 4)
-      → new ≡ sets l (at + 8 * j + 4) (getD p (row / 8 % 2) 0 ∷ getD p (row / 4 % 2) 0 ∷ getD p (row / 2 % 2) 0 ∷ getD p (row % 2) 0 ∷ [])
-      → Glyphing a g at 64 old new (8 * (j + 1))
-  unfolding glyphBit
-  right-turn new q s =
-      four-turn a g at old l 64 (8 * j + 4) (at + 8 * j + 4) (8 * (j + 1)) _ _ _ _ new q (omega arith) (omega arith) (omega arith) s
-      (colour-word a g 4 j (8 * j + 4) (row / 8 % 2) p t d (omega arith) (omega arith) (omega arith) (omega (arith, r)))
-      (colour-word a g 5 j (8 * j + 4 + 1) (row / 4 % 2) p t d (omega arith) (omega arith) (omega arith) (omega (arith, r)))
-      (colour-word a g 6 j (8 * j + 4 + 2) (row / 2 % 2) p t d (omega arith) (omega arith) (omega arith) (omega (arith, r)))
-      (colour-word a g 7 j (8 * j + 4 + 3) (row % 2) p t d (omega arith) (omega arith) (omega arith) (omega (arith, r)))
+  pixel-turn k row p d t r q h =
+      let e = colour-word a g (k % 8) (k / 8) k (row / 2 ^ (7 - k % 8) % 2) p t d refl refl (omega arith) (ap (λ (z : ℕ). z / 2 ^ (7 - k % 8) % 2) r) in
+      record {
+        within = omega arith;
+        same = length-sets l (at + k) (getD p (row / 2 ^ (7 - k % 8) % 2) 0 ∷ []) ∙ q .same;
+        stored = rw (add-one, tabulate-more k (glyphWord a g), sets-append, length-tabulate, ← (q .stored), e);
+      }

@@ -161,7 +161,7 @@ fn put_narrow(words: &mut [u16], at: usize, a: Ask, glyph: &[u8])
     }
 }
 
-// Stores a glyph's host words at another depth, eight a line.
+// Stores a glyph's host words at another depth, eight a line; a colour is looked up too.
 fn put_wide(words: &mut [u16], at: usize, a: Ask, glyph: &[u8])
     requires { ⌜ (a .depth ≡ 8 → ⊥) ⌝ }
     requires { ⌜ length (now glyph) ≡ 8 ⌝ }
@@ -169,26 +169,11 @@ fn put_wide(words: &mut [u16], at: usize, a: Ask, glyph: &[u8])
     ensures { λ _. ⌜ now (words .exit) ≡ sets (now (words .entry)) at (glyphWords a (now (glyph .entry))) ⌝ }
 {
     let p = [a.background, a.bar];
-    let mut j = 0;
-    while j < 8 {
-        let row = record_code::wide(glyph[j]) as usize;
-        put_four(
-            words,
-            at + 8 * j,
-            p[(row >> 7) % 2],
-            p[(row >> 6) % 2],
-            p[(row >> 5) % 2],
-            p[(row >> 4) % 2],
-        );
-        put_four(
-            words,
-            at + 8 * j + 4,
-            p[(row >> 3) % 2],
-            p[(row >> 2) % 2],
-            p[(row >> 1) % 2],
-            p[row % 2],
-        );
-        j += 1;
+    let mut k = 0;
+    while k < 64 {
+        let row = record_code::wide(glyph[k / 8]) as usize;
+        words[at + k] = p[(row >> (7 - k % 8)) % 2];
+        k += 1;
     }
 }
 
