@@ -9,7 +9,6 @@
 // HOURS: how many, 1 to 24. COLUMN: a column's width in pixels, 1 to 16. X, Y: the strip's upper left corner. BAR, BACKGROUND: colours.
 // SITE: a font of the site, 8 bytes for each digit from 0 on; for digits that it has not, and without it, our factory font is used.
 ghost use mathlib.Core.Path.{_≡_};
-ghost use lib.ListN.{length, replicate};
 ghost use Rattle.strip.specs.Short.{shortOf};
 use text::Number;
 use wear::Ask;
@@ -31,14 +30,6 @@ fn short_of(a: Number) -> Short
         };
     }
     Short { ok: false, n: 0 }
-}
-
-// Room for samples, and one byte more, so that a longer file is seen.
-fn sample_room() -> [u8; 524289]
-    ensures { λ r. ⌜ r ≡ replicate 524289 0 ⌝ }
-    ensures { λ r. ⌜ 524289 ≡ length r ⌝ }
-{
-    [0; 524289]
 }
 
 // Takes the samples, and shows the strip with a site font on a memory of zeros.
@@ -70,7 +61,7 @@ fn run_for(a: Ask) {
     if !s.ok {
         return;
     }
-    let mut samples = sample_room();
+    let mut samples = strip_take::sample_room();
     let t = files::load(2, &mut samples);
     if !t.ok {
         return;

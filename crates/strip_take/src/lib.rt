@@ -1,11 +1,20 @@
 // Takes the samples of a text into a ring, and says on standard error which are refused, and why.
 ghost use mathlib.Core.Path.{_≡_};
 ghost use mathlib.Core.List.{[]};
+ghost use lib.ListN.{length, replicate};
 ghost use Rattle.ring.specs.Kept.{emptyRing, taking, ringAfter};
 ghost use Rattle.sample.specs.Line.{lineMeans, withLine, linesOf, samplesOf};
 use ring::Ring;
 use sample::SampleLine;
 use sample::Stop;
+
+// Room for samples, and one byte more, so that a longer file is seen.
+pub fn sample_room() -> [u8; 524289]
+    ensures { λ r. ⌜ r ≡ replicate 524289 0 ⌝ }
+    ensures { λ r. ⌜ 524289 ≡ length r ⌝ }
+{
+    [0; 524289]
+}
 
 // Says why the sample of a line is not taken.
 fn say_line(line: u64, why: &[u8]) {
