@@ -3,7 +3,6 @@ use Prim.Native.Nat.{ℕ}
 use mathlib.Core.List.{List}
 use Rattle.screen.specs.Values.{sixValues}
 use Rattle.screen.specs.declared.ScreenValues.{ScreenValues}
-use Rattle.command.specs.Task.{commandSize}
 use Rattle.compiler.specs.Compile.{Compiling}
 use Rattle.compiler.specs.Part.{partFrom, partSize}
 use Rattle.reader.specs.Read.{Reading}
@@ -20,9 +19,9 @@ use Rattle.answers.specs.declared.S1dHour.{S1dHour}
 use Rattle.answers.specs.declared.S1dStrip.{S1dStrip}
 use Rattle.answers.specs.declared.S1dGlyph.{S1dGlyph}
 
--- compiling's numbers, and where the refused command's part of the list starts, with its length
-unfoldable pub compiledOf : Compiling → List ℕ → S1dCompiled
-compiledOf c list =
+-- compiling's numbers, and where the refused command's part of the list, in its form, starts, with its length
+unfoldable pub compiledOf : ℕ → Compiling → List ℕ → S1dCompiled
+compiledOf form c list =
     record {
       number = c .number;
       place = c .place;
@@ -30,8 +29,8 @@ compiledOf c list =
       depth = c .depth;
       rotation = c .rotation;
       flag = c .flag;
-      «part_at» = partFrom commandSize list c;
-      «part_length» = partSize commandSize list c;
+      «part_at» = partFrom form list c;
+      «part_length» = partSize form list c;
     }
 
 -- the panel's settings from their numbers

@@ -29,10 +29,10 @@ use wear::GlyphAnswer;
 use wear::StripAnswer;
 
 // Compiling's answer, with the refused command's part of the list.
-pub fn compiled_of(c: Compiled, list: &[u8]) -> S1dCompiled
-    ensures { λ r. ⌜ r ≡ compiledOf (compilingOf c) (now (list .entry)) ⌝ }
+pub fn compiled_of(form: u32, c: Compiled, list: &[u8]) -> S1dCompiled
+    ensures { λ r. ⌜ r ≡ compiledOf form (compilingOf c) (now (list .entry)) ⌝ }
 {
-    let part = compiler_code::part_of(list, c);
+    let part = compiler_code::part_of(form, list, c);
     match c {
         Compiled::Accepted(length, depth, rotation, flag) => S1dCompiled {
             number: 0,

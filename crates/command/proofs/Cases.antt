@@ -1,7 +1,7 @@
 -- Some commands, computed: their fields, nine values, host words and refusals. Among them 01's B1 and B2, and a move to a smaller x in a later line.
 use Prim.Native.Nat.{ℕ}
 use mathlib.Core.Path.{_≡_, refl}
-use mathlib.Core.List.{List, [], _∷_, map}
+use mathlib.Core.List.{List, [], _∷_, _++_, map}
 use mathlib.Core.Bool.{true, false}
 use lib.ListN.{replicate, set}
 use Rattle.record.specs.Bytes.{allZero}
@@ -40,6 +40,10 @@ command operation surface raster x y width height sx sy colour =
       sx = sx;
       sy = sy;
       colour = colour;
+      key = 0;
+      px = 0;
+      py = 0;
+      pattern = 0;
     }
 
 pub values-hold : (blitValues (screen 8 320 240) (command 0 0 0 10 20 100 150 0 0 1) ≡ 0x0C ∷ 0 ∷ 0x190A ∷ 0xA0 ∷ 0x63 ∷ 0x95 ∷ 0 ∷ 1 ∷ 1 ∷ [])
@@ -100,11 +104,31 @@ pub refusals-hold : (refusal (screen 8 8 4) 3 (bytes 0 0 0 8 4) ≡ 0)
 unfolding allZero firstOf viewWidth viewHeight mainImage windowImage surfaceOf commandOf mustBeZero formed insideImage placed lineWords wordsTaken commandRows refusal
 refusals-hold = (refl, refl, refl, refl, refl, refl)
 
--- the fields of a record whose bytes are their places
+-- the fields of a record whose bytes are their places, short and long
 pub fields-hold : commandOf (0 ∷ 1 ∷ 2 ∷ 3 ∷ 4 ∷ 5 ∷ 6 ∷ 7 ∷ 8 ∷ 9 ∷ 10 ∷ 11 ∷ 12 ∷ 13 ∷ 14 ∷ 15 ∷ 16 ∷ 17 ∷ [])
     ≡ command 0 1 2 0x0504 0x0706 0x0908 0x0B0A 0x0D0C 0x0F0E 0x1110
 unfolding commandOf
 fields-hold = refl
+
+pub long-fields-hold : commandOf (replicate 32 0 ++ (32 ∷ 33 ∷ 34 ∷ 35 ∷ 36 ∷ 37 ∷ 38 ∷ 39 ∷ 40 ∷ 41 ∷ 42 ∷ 43 ∷ 44 ∷ 45 ∷ 46 ∷ 47 ∷ []))
+    ≡ record {
+      operation = 0;
+      surface = 0;
+      raster = 0;
+      x = 0;
+      y = 0;
+      width = 0;
+      height = 0;
+      sx = 0;
+      sy = 0;
+      colour = 0;
+      key = 0x2120;
+      px = 0x22;
+      py = 0x23;
+      pattern = 0x27262524;
+    }
+unfolding commandOf
+long-fields-hold = refl
 
 -- and the bytes of these fields
 pub bytes-hold : commandBytes (command 0 1 2 0x0504 0x0706 0x0908 0x0B0A 0x0D0C 0x0F0E 0x1110)
@@ -126,6 +150,10 @@ move = set (set (bytes 1 2 1 3 2) 12 1) 14 1
 abbrev write : List ℕ
 write = bytes 2 2 1 3 2
 
+-- the same in the long form
+abbrev long : List ℕ → List ℕ
+long b = b ++ replicate 16 0
+
 -- 12: operation 3, surface 2, raster code 16, colour 256 at depth 8, and each byte that must be zero: 3, 18 and 31, a fill's raster code and
 -- source, a move's colour, a write's source and colour. What an operation uses may be there.
 pub form : map number (
@@ -141,6 +169,19 @@ pub form : map number (
     ∷ []
 unfolding allZero firstOf viewWidth viewHeight mainImage windowImage surfaceOf commandOf mustBeZero formed insideImage placed lineWords wordsTaken commandRows refusal
 form = refl
+
+-- the same of a long record (02, g): bytes 32 to 47, with none and with each of the key colour's, the pattern's and the rest's at either end
+pub long-form : map number (
+    long fill ∷ long move ∷ long write
+    ∷ set (long fill) 32 1 ∷ set (long fill) 33 1 ∷ set (long move) 34 1 ∷ set (long move) 35 1 ∷ set (long write) 36 1 ∷ set (long write) 39 1
+    ∷ set (long fill) 40 1 ∷ set (long move) 47 1 ∷ set (long write) 47 1 ∷ set (long fill) 0 3 ∷ set (long fill) 31 1
+    ∷ [])
+    ≡ 0 ∷ 0 ∷ 0
+    ∷ 12 ∷ 12 ∷ 12 ∷ 12 ∷ 12 ∷ 12
+    ∷ 12 ∷ 12 ∷ 12 ∷ 12 ∷ 12
+    ∷ []
+unfolding allZero firstOf viewWidth viewHeight mainImage windowImage surfaceOf commandOf mustBeZero formed insideImage placed lineWords wordsTaken commandRows refusal
+long-form = refl
 
 -- at depth 16 a colour may have 16 bits; with flag 0 there is no window
 abbrev flagless : Screen

@@ -2,6 +2,7 @@ pub mod Answer
 pub mod Operation
 pub mod Bytes
 pub mod Fine
+pub mod Forms
 pub mod Numbers
 pub mod Commands
 pub mod Task

@@ -14,18 +14,25 @@ use Rattle.record.proofs.Lists.{length-parts}
 use Rattle.screen.specs.Screen.{fieldRows, screenRows}
 use Rattle.screen.specs.declared.Screen.{Screen}
 use Rattle.screen.proofs.Read.{screen-numbered, accepts, read-accepted}
-use Rattle.command.specs.Task.{Task, screenIn, commandsIn, listRows, firstRefusal, allWords, wordRows, taskRefusal}
+use Rattle.command.specs.Task.{isForm, Task, screenIn, commandsIn, isList, listRows, firstRefusal, allWords, wordRows, taskRefusal}
+use Rattle.command.proofs.Forms.{list-is}
 use Rattle.command.proofs.Numbers.{allOf, first-between, first-of-no-command}
 use Rattle.command.proofs.Commands.{AllFine, all-fine, words-suffice, RefusesOne, refusal-place}
 
 -- ---- rows 10, 11 and 16
-pub list-says : (size : ℕ) (s : Screen) (list : List ℕ) → firstOf (listRows size s list) ≡ 0 → (length list % size ≡ 0) × (length list ≤ 64 * size) × (0 < length list → 8 ≤ s .depth)
+pub record ListSays (form : ℕ) (s : Screen) (list : List ℕ) : Type 0 where
+  pub formed : isForm form ≡ true
+  pub whole : length list % form ≡ 0
+  pub few : length list ≤ 64 * form
+  pub deep : 0 < length list → 8 ≤ s .depth
+
+pub list-says : (form : ℕ) (s : Screen) (list : List ℕ) → firstOf (listRows form s list) ≡ 0 → ListSays form s list
 unfolding listRows
-list-says size s list e =
+list-says form s list e =
     let p = passed (row 10 _) _ (lit< tt) e in
     let q = passed (row 11 _) _ (lit< tt) (p .1) in
-    let w = simp and-eq-true-iff at (not-false (eqb (length list % size) 0 && leb (length list) (64 * size)) (p .0)) in
-    (eqb-true (length list % size) 0 (w .0), leb-true (length list) (64 * size) (w .1), λ h. deep (ltb 0 (length list)) (lt-ltb 0 (length list) h) (q .0))
+    let w = list-is form list (not-false (isList form list) (p .0)) in
+    record { formed = w .0; whole = w .1; few = w .2; deep = λ h. deep (ltb 0 (length list)) (lt-ltb 0 (length list) h) (q .0) }
   where
     deep : (t : Bool) → t ≡ true → (t && ltb (s .depth) 8) ≡ false → 8 ≤ s .depth
     deep t h f = ltb-false (s .depth) 8 (rw h at f)
@@ -48,18 +55,18 @@ module _ (m : ℕ) (t : Task) where
   pub by-screen : (n : ℕ) → 0 < n → firstOf (screenRows m (t .screen)) ≡ n → taskRefusal m t ≡ record { number = n; place = 0 }
   unfolding taskRefusal
   by-screen n h e =
-      let f : firstOf (screenRows m (t .screen) ++ listRows (t .size) (screenIn t) (t .list)) ≡ n = first-part (screenRows m (t .screen)) (listRows (t .size) (screenIn t) (t .list)) (rw e h) ∙ e in
+      let f : firstOf (screenRows m (t .screen) ++ listRows (t .form) (screenIn t) (t .list)) ≡ n = first-part (screenRows m (t .screen)) (listRows (t .form) (screenIn t) (t .list)) (rw e h) ∙ e in
       rw (f, ne-eqb n 0 (λ z. omega arith))
 
   module _ (e : firstOf (screenRows m (t .screen)) ≡ 0) where
-    first-is : firstOf (screenRows m (t .screen) ++ listRows (t .size) (screenIn t) (t .list)) ≡ firstOf (listRows (t .size) (screenIn t) (t .list))
-    first-is = second-part (screenRows m (t .screen)) (listRows (t .size) (screenIn t) (t .list)) (none (screenRows m (t .screen)) (screen-numbered m (t .screen)) e)
+    first-is : firstOf (screenRows m (t .screen) ++ listRows (t .form) (screenIn t) (t .list)) ≡ firstOf (listRows (t .form) (screenIn t) (t .list))
+    first-is = second-part (screenRows m (t .screen)) (listRows (t .form) (screenIn t) (t .list)) (none (screenRows m (t .screen)) (screen-numbered m (t .screen)) e)
 
-    pub by-list : (n : ℕ) → 0 < n → firstOf (listRows (t .size) (screenIn t) (t .list)) ≡ n → taskRefusal m t ≡ record { number = n; place = 0 }
+    pub by-list : (n : ℕ) → 0 < n → firstOf (listRows (t .form) (screenIn t) (t .list)) ≡ n → taskRefusal m t ≡ record { number = n; place = 0 }
     unfolding taskRefusal
     by-list n h f = rw (first-is, f, ne-eqb n 0 (λ z. omega arith))
 
-    module _ (f : firstOf (listRows (t .size) (screenIn t) (t .list)) ≡ 0) where
+    module _ (f : firstOf (listRows (t .form) (screenIn t) (t .list)) ≡ 0) where
       pub by-command : (n i : ℕ) → 0 < n → firstRefusal (screenIn t) 0 (length (t .words)) (commandsIn t) ≡ record { number = n; place = i } → taskRefusal m t ≡ record { number = n; place = i }
       unfolding taskRefusal
       by-command n i h d = rw (first-is, f, d, ne-eqb n 0 (λ z. omega arith))
@@ -74,8 +81,9 @@ pub record Accepted (m : ℕ) (t : Task) : Type 0 where
   pub screen : firstOf (screenRows m (t .screen)) ≡ 0
   pub fields : firstOf (fieldRows m (screenIn t)) ≡ 0
   pub flag : screenIn t .flag ≤ 1
-  pub whole : length (t .list) % t .size ≡ 0
-  pub few : length (t .list) ≤ 64 * t .size
+  pub formed : isForm (t .form) ≡ true
+  pub whole : length (t .list) % t .form ≡ 0
+  pub few : length (t .list) ≤ 64 * t .form
   pub deep : 0 < length (t .list) → 8 ≤ screenIn t .depth
   pub none-refused : firstRefusal (screenIn t) 0 (length (t .words)) (commandsIn t) .number ≡ 0
   pub fine : AllFine (screenIn t) (length (t .words)) (commandsIn t)
@@ -107,20 +115,21 @@ pub accepted-says : (m : ℕ) (t : Task) → taskRefusal m t .number ≡ 0 → A
 unfolding taskRefusal
 accepted-says m t e =
     let sc = screenRows m (t .screen) in
-    let li = listRows (t .size) (screenIn t) (t .list) in
+    let li = listRows (t .form) (screenIn t) (t .list) in
     let p = no-number (firstOf (sc ++ li)) (firstOf (wordRows t)) (firstRefusal (screenIn t) 0 (length (t .words)) (commandsIn t)) e in
     let s = first-zero sc li (p .0) in
     let r = read-accepted m (t .screen) (screenIn t) (sym (accepts m (t .screen) s)) in
-    let l = list-says (t .size) (screenIn t) (t .list) (sym (second-part sc li (none sc (screen-numbered m (t .screen)) s)) ∙ p .0) in
+    let l = list-says (t .form) (screenIn t) (t .list) (sym (second-part sc li (none sc (screen-numbered m (t .screen)) s)) ∙ p .0) in
     let a = all-fine (screenIn t) 0 (length (t .words)) (commandsIn t) (p .1) in
     record {
       number = e;
       screen = s;
       fields = r .2;
       flag = r .3;
-      whole = l .0;
-      few = l .1;
-      deep = l .2;
+      formed = l .formed;
+      whole = l .whole;
+      few = l .few;
+      deep = l .deep;
       none-refused = p .1;
       fine = a;
       taken = omega (arith, words-suffice (screenIn t) (length (t .words)) (commandsIn t) a, words-say t (p .2));
@@ -144,17 +153,17 @@ placed-by count f e d hf hd he = chosen (eqb f 0) (eqb (d .number) 0) (eqb e 0) 
     chosen false u v p q r = inr (hf (above f (eqb-false f 0 p)), refl)
 
 module _ (m : ℕ) (t : Task) where
-  first-number : 0 < firstOf (screenRows m (t .screen) ++ listRows (t .size) (screenIn t) (t .list)) → (firstOf (screenRows m (t .screen) ++ listRows (t .size) (screenIn t) (t .list)) ≤ 11) ⊎ (16 ≤ firstOf (screenRows m (t .screen) ++ listRows (t .size) (screenIn t) (t .list)))
+  first-number : 0 < firstOf (screenRows m (t .screen) ++ listRows (t .form) (screenIn t) (t .list)) → (firstOf (screenRows m (t .screen) ++ listRows (t .form) (screenIn t) (t .list)) ≤ 11) ⊎ (16 ≤ firstOf (screenRows m (t .screen) ++ listRows (t .form) (screenIn t) (t .list)))
   unfolding screenRows fieldRows listRows allOf
-  first-number h = first-of-no-command (screenRows m (t .screen) ++ listRows (t .size) (screenIn t) (t .list)) refl h
+  first-number h = first-of-no-command (screenRows m (t .screen) ++ listRows (t .form) (screenIn t) (t .list)) refl h
 
   last-number : 0 < firstOf (wordRows t) → 16 ≤ firstOf (wordRows t)
   unfolding wordRows allOf
   last-number h = first-between 16 16 (wordRows t) refl h .0
 
-  in-list : 0 < firstRefusal (screenIn t) 0 (length (t .words)) (commandsIn t) .number → RefusesOne (length (t .list) / t .size) (firstRefusal (screenIn t) 0 (length (t .words)) (commandsIn t))
-  in-list h = let k = refusal-place (screenIn t) 0 (length (t .words)) (commandsIn t) h in (k .0, k .1, omega (arith, length-parts (t .size) (t .list)))
+  in-list : 0 < firstRefusal (screenIn t) 0 (length (t .words)) (commandsIn t) .number → RefusesOne (length (t .list) / t .form) (firstRefusal (screenIn t) 0 (length (t .words)) (commandsIn t))
+  in-list h = let k = refusal-place (screenIn t) 0 (length (t .words)) (commandsIn t) h in (k .0, k .1, omega (arith, length-parts (t .form) (t .list)))
 
-  pub task-placed : Placed (length (t .list) / t .size) (taskRefusal m t)
+  pub task-placed : Placed (length (t .list) / t .form) (taskRefusal m t)
   unfolding taskRefusal
-  task-placed = placed-by (length (t .list) / t .size) (firstOf (screenRows m (t .screen) ++ listRows (t .size) (screenIn t) (t .list))) (firstOf (wordRows t)) (firstRefusal (screenIn t) 0 (length (t .words)) (commandsIn t)) first-number in-list last-number
+  task-placed = placed-by (length (t .list) / t .form) (firstOf (screenRows m (t .screen) ++ listRows (t .form) (screenIn t) (t .list))) (firstOf (wordRows t)) (firstRefusal (screenIn t) 0 (length (t .words)) (commandsIn t)) first-number in-list last-number

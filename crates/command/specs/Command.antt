@@ -1,10 +1,10 @@
--- The command record (01, "Stored records"), and its refusals 12 to 15 (01, "Refusal numbers").
+-- The command record (01, "Stored records"; its long form: 02, g), and its refusals 12 to 15 (01, "Refusal numbers").
 use Prim.Native.Nat.{ℕ, _+_, _*_, _/_}
 use mathlib.Core.List.{List, [], _∷_, _++_}
 use mathlib.Core.Bool.{Bool, true, not, _&&_, _||_, cond}
 use lib.ListN.{take, drop, replicate}
 use lib.Dec.{leb, ltb, eqb}
-use Rattle.record.specs.Bytes.{byteAt, u16At, twoBytes, allZero}
+use Rattle.record.specs.Bytes.{byteAt, u16At, u32At, twoBytes, allZero}
 use Rattle.record.specs.Checks.{Row, row, firstOf}
 use Rattle.screen.specs.Screen.{mainImage, windowImage}
 use Rattle.screen.specs.declared.Image.{Image}
@@ -13,7 +13,7 @@ use Rattle.command.specs.declared.Command.{Command}
 use Rattle.command.specs.declared.CommandAnswer.{CommandAnswer}
 use Rattle.command.specs.declared.CommandAnswer.the-variants.{Accepted, Refused}
 
--- the record's fields
+-- the record's fields; a record of 32 bytes has none of the last four, and they are 0
 unfoldable pub commandOf : List ℕ → Command
 commandOf b =
     record {
@@ -27,9 +27,13 @@ commandOf b =
       sx = u16At b 12;
       sy = u16At b 14;
       colour = u16At b 16;
+      key = u16At b 32;
+      px = byteAt b 34;
+      py = byteAt b 35;
+      pattern = u32At b 36;
     }
 
--- the 32 bytes of a command
+-- the 32 bytes of a command in the short form
 unfoldable pub commandBytes : Command → List ℕ
 commandBytes c =
     c .operation ∷ c .surface ∷ c .raster ∷ 0
@@ -53,7 +57,8 @@ mustBeZero c =
     (c .colour ∷ [])
     (c .sx ∷ c .sy ∷ c .colour ∷ [])
 
--- not refused by 12: operation, surface, raster code and colour are there, and what must be zero is
+-- not refused by 12: operation, surface, raster code and colour are there, and what must be zero is; of a long record too, "Operations 0 to 2
+-- keep bytes 32-47 zero" (02, g)
 unfoldable pub formed : Screen → List ℕ → Command → Bool
 formed s b c =
     leb (c .operation) 2
@@ -62,7 +67,8 @@ formed s b c =
     && ((not (eqb (s .depth) 8) || leb (c .colour) 255)
     && (allZero (mustBeZero c)
     && (eqb (byteAt b 3) 0
-    && allZero (take 14 (drop 18 b)))))))
+    && (allZero (take 14 (drop 18 b))
+    && allZero (drop 32 b)))))))
 
 -- a rectangle at (x, y) inside an image
 unfoldable pub insideImage : Image → ℕ → ℕ → ℕ → ℕ → Bool

@@ -2,7 +2,7 @@
 -- command, then 16, 17"). The last, 17, is asked where there is a stream buffer.
 use Prim.Native.Nat.{ℕ, suc, _+_, _-_, _*_, _%_}
 use mathlib.Core.List.{List, [], _∷_, _++_}
-use mathlib.Core.Bool.{Bool, not, _&&_, cond}
+use mathlib.Core.Bool.{Bool, not, _&&_, _||_, cond}
 use lib.ListN.{length}
 use lib.Dec.{leb, ltb, eqb}
 use Rattle.record.specs.Lists.{partsOf}
@@ -11,20 +11,25 @@ use Rattle.screen.specs.Screen.{fieldsOf, screenRows}
 use Rattle.screen.specs.declared.Screen.{Screen}
 use Rattle.command.specs.Command.{commandOf, wordsTaken, refusal}
 
--- bytes of a command record
-abbrev pub commandSize : ℕ
-commandSize = 32
+-- the forms of a list, by the bytes of their records (02, g): "both forms kept"
+abbrev pub shortForm : ℕ
+shortForm = 32
 
--- a screen record, a command list, host words, and the bytes of one of the list's records
+abbrev pub longForm : ℕ
+longForm = 48
+
+abbrev pub isForm : ℕ → Bool
+isForm n = eqb n shortForm || eqb n longForm
+
+-- the list's form, which the caller names, a screen record, a command list and host words
 pub record Task : Type 0 where
+  pub form : ℕ
   pub screen : List ℕ
   pub list : List ℕ
   pub words : List ℕ
-  pub size : ℕ
 
--- a task whose commands are 32 bytes each
-abbrev pub task : List ℕ → List ℕ → List ℕ → Task
-task screen list words = record { screen = screen; list = list; words = words; size = commandSize }
+abbrev pub task : ℕ → List ℕ → List ℕ → List ℕ → Task
+task form screen list words = record { form = form; screen = screen; list = list; words = words }
 
 -- the screen of its record
 abbrev pub screenIn : Task → Screen
@@ -32,16 +37,16 @@ screenIn t = fieldsOf (t .screen)
 
 -- the commands of its list
 abbrev pub commandsIn : Task → List (List ℕ)
-commandsIn t = partsOf (t .size) (t .list)
+commandsIn t = partsOf (t .form) (t .list)
 
--- a list of whole records, at most 64
+-- a list of whole records, at most 64, in a form that there is: "number 10 uses 32 or 48 accordingly"
 abbrev pub isList : ℕ → List ℕ → Bool
-isList size list = eqb (length list % size) 0 && leb (length list) (64 * size)
+isList form list = isForm form && (eqb (length list % form) 0 && leb (length list) (64 * form))
 
 -- rows 10 and 11
 unfoldable pub listRows : ℕ → Screen → List ℕ → List Row
-listRows size s list =
-    row 10 (not (isList size list))
+listRows form s list =
+    row 10 (not (isList form list))
     ∷ row 11 (ltb 0 (length list) && ltb (s .depth) 8)
     ∷ []
 
@@ -65,7 +70,7 @@ wordRows t = row 16 (ltb (allWords (screenIn t) (commandsIn t)) (length (t .word
 -- the first refusal of 1 to 16 and 26, the memory being m bytes
 unfoldable pub taskRefusal : ℕ → Task → Refusal
 taskRefusal m t =
-    let first = firstOf (screenRows m (t .screen) ++ listRows (t .size) (screenIn t) (t .list)) in
+    let first = firstOf (screenRows m (t .screen) ++ listRows (t .form) (screenIn t) (t .list)) in
     let inList = firstRefusal (screenIn t) 0 (length (t .words)) (commandsIn t) in
     cond (not (eqb first 0)) (record { number = first; place = 0 })
     (cond (not (eqb (inList .number) 0)) inList

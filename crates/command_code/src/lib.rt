@@ -1,19 +1,72 @@
 // The command record, and the register values of a command.
 ghost use mathlib.Core.Path.{_≡_};
 ghost use Prim.Native.Nat.{_-_, _≤_};
+ghost use mathlib.Core.Bool.{true};
 ghost use lib.ListN.{length};
-ghost use Rattle.record.specs.Bytes.{allZero};
+ghost use Rattle.record.specs.Bytes.{byteAt, u16At, u32At, allZero};
 ghost use Rattle.record.specs.Checks.{firstOf};
 ghost use Rattle.command.specs.Command.{commandOf, byOperation, surfaceOf, mustBeZero, formed, insideImage, placed, lineWords, wordsTaken, commandRows, namesCommand, refusal, commandAnswer, numberOf};
+ghost use Rattle.command.specs.Task.{isForm, isList};
 ghost use Rattle.command.specs.Values.{addressOf, isNegative, lastColumn, lastLine, commandValue, sourceValue, destinationValue, controlValue, blitValues};
 use command::Command;
 use command::CommandAnswer;
 use screen::Image;
 use screen::Screen;
 
+// Refusal 10: whether a list has whole records, at most 64, in a form that there is.
+pub fn is_list(form: u32, list: &[u8]) -> bool
+    ensures { λ r. ⌜ r ≡ isList form (now (list .entry)) ⌝ }
+{
+    let n = list.len() as u64;
+    let size = form as u64;
+    let over = record_code::remainder(n, size);
+    ((form == 32) | (form == 48)) & ((over == 0) & (n <= 64 * size))
+}
+
+// The long form's fields; 0 in the short form.
+fn key_of(b: &[u8]) -> u16
+    requires { ⌜ isForm (length (now b)) ≡ true ⌝ }
+    ensures { λ r. ⌜ r ≡ u16At (now (b .entry)) 32 ⌝ }
+{
+    if b.len() < 48 {
+        return 0;
+    }
+    record_code::u16_at(b, 32)
+}
+
+fn pattern_column(b: &[u8]) -> u8
+    requires { ⌜ isForm (length (now b)) ≡ true ⌝ }
+    ensures { λ r. ⌜ r ≡ byteAt (now (b .entry)) 34 ⌝ }
+{
+    if b.len() < 48 {
+        return 0;
+    }
+    b[34]
+}
+
+fn pattern_line(b: &[u8]) -> u8
+    requires { ⌜ isForm (length (now b)) ≡ true ⌝ }
+    ensures { λ r. ⌜ r ≡ byteAt (now (b .entry)) 35 ⌝ }
+{
+    if b.len() < 48 {
+        return 0;
+    }
+    b[35]
+}
+
+fn pattern_address(b: &[u8]) -> u32
+    requires { ⌜ isForm (length (now b)) ≡ true ⌝ }
+    ensures { λ r. ⌜ r ≡ u32At (now (b .entry)) 36 ⌝ }
+{
+    if b.len() < 48 {
+        return 0;
+    }
+    record_code::u32_at(b, 36)
+}
+
 // The record's fields.
 pub fn command_of(b: &[u8]) -> Command
-    requires { ⌜ length (now b) ≡ 32 ⌝ }
+    requires { ⌜ isForm (length (now b)) ≡ true ⌝ }
     ensures { λ r. ⌜ r ≡ commandOf (now (b .entry)) ⌝ }
 {
     Command {
@@ -27,6 +80,10 @@ pub fn command_of(b: &[u8]) -> Command
         sx: record_code::u16_at(b, 12),
         sy: record_code::u16_at(b, 14),
         colour: record_code::u16_at(b, 16),
+        key: key_of(b),
+        px: pattern_column(b),
+        py: pattern_line(b),
+        pattern: pattern_address(b),
     }
 }
 
@@ -55,12 +112,14 @@ fn is_unused_zero(c: Command) -> bool
 
 // Refusal 12: whether the command is one, and zero where it must be.
 fn is_formed(s: Screen, b: &[u8], c: Command) -> bool
-    requires { ⌜ length (now b) ≡ 32 ⌝ }
+    requires { ⌜ isForm (length (now b)) ≡ true ⌝ }
     ensures { λ r. ⌜ r ≡ formed s (now (b .entry)) c ⌝ }
 {
+    let n = b.len();
     let rest = record_code::all_zero(&b[18..32]);
+    let long = record_code::all_zero(&b[32..n]);
     let colour = (s.depth != 8) | (c.colour <= 255);
-    let zero = is_unused_zero(c) & ((b[3] == 0) & rest);
+    let zero = is_unused_zero(c) & ((b[3] == 0) & (rest & long));
     (c.operation <= 2) & ((c.surface <= s.flag) & ((c.raster <= 15) & (colour & zero)))
 }
 
@@ -115,7 +174,7 @@ const COMMAND_CHECKS: [u32; 4] = [12, 13, 14, 15];
 
 // The first of 12 to 15 that holds, with so many host words left; 0 for none.
 fn refusal_of(s: Screen, left: u64, b: &[u8], c: Command) -> u32
-    requires { ⌜ length (now b) ≡ 32 ⌝ }
+    requires { ⌜ isForm (length (now b)) ≡ true ⌝ }
     ensures { λ r. ⌜ r ≡ firstOf (commandRows s left (now (b .entry)) c) ⌝ }
 {
     let formed = is_formed(s, b, c);
@@ -130,9 +189,9 @@ fn refusal_of(s: Screen, left: u64, b: &[u8], c: Command) -> u32
     record_code::first_of(&COMMAND_CHECKS, &fails)
 }
 
-// The command of a 32-byte part of the list, or the first refusal number of 12 to 15.
+// The command of a part of the list, a record in one of its forms, or the first refusal number of 12 to 15.
 pub fn read_command(s: Screen, left: u64, b: &[u8]) -> CommandAnswer
-    requires { ⌜ length (now b) ≡ 32 ⌝ }
+    requires { ⌜ isForm (length (now b)) ≡ true ⌝ }
     ensures { λ r. ⌜ r ≡ commandAnswer s left (now (b .entry)) ⌝ }
     ensures { λ r. ⌜ numberOf r ≡ refusal s left (now (b .entry)) ⌝ }
 {

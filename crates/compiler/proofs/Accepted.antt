@@ -21,7 +21,7 @@ use Rattle.compiler.proofs.Answered.{answered-number, answered-accepted
 -- a task that is accepted with a stream buffer of `room` bytes
 pub record Accepted (m : ℕ) (t : Task) (room : ℕ) : Type 0 where
   pub task : TaskAccepted m t
-  pub records : length (recordsIn t) ≡ 6 + 9 * (length (t .list) / t .size) + length (t .words)
+  pub records : length (recordsIn t) ≡ 6 + 9 * (length (t .list) / t .form) + length (t .words)
   pub fits : 8 * length (recordsIn t) ≤ room
   pub given : compiling m t room ≡ record { number = 0; place = 0; length = 8 * length (recordsIn t); depth = screenIn t .depth; rotation = screenIn t .rotation; flag = screenIn t .flag }
 
@@ -53,7 +53,7 @@ module _ (m : ℕ) (t : Task) (room : ℕ) where
       let a = accepted-says m t (p .0) in
       record {
         task = a;
-        records = omega (arith, length-records (screenIn t) (t .words) (commandsIn t) (omega (arith, a .taken)), length-parts (t .size) (t .list), a .taken);
+        records = omega (arith, length-records (screenIn t) (t .words) (commandsIn t) (omega (arith, a .taken)), length-parts (t .form) (t .list), a .taken);
         fits = room-says t room (p .1);
         given = compiling-is n;
       }
@@ -75,29 +75,29 @@ module _ (m : ℕ) (t : Task) (room : ℕ) where
   unfolding roomRows allOf
   room-number h = first-between 16 17 (roomRows t room) refl h .0
 
-  refusal-placed : Placed (length (t .list) / t .size) (refusalOf m t room)
+  refusal-placed : Placed (length (t .list) / t .form) (refusalOf m t room)
   unfolding refusalOf
-  refusal-placed = placed-by (length (t .list) / t .size) (firstOf (roomRows t room)) (taskRefusal m t) (task-placed m t) room-number (eqb (taskRefusal m t .number) 0)
+  refusal-placed = placed-by (length (t .list) / t .form) (firstOf (roomRows t room)) (taskRefusal m t) (task-placed m t) room-number (eqb (taskRefusal m t .number) 0)
 
-  pub places : Placed (length (t .list) / t .size) (record { number = compiling m t room .number; place = compiling m t room .place })
+  pub places : Placed (length (t .list) / t .form) (record { number = compiling m t room .number; place = compiling m t room .place })
   unfolding compiling
   places = chosen (eqb (refusalOf m t room .number) 0)
     where
       told : Bool → Compiling
       told b = cond b (record { number = 0; place = 0; length = 8 * length (recordsIn t); depth = screenIn t .depth; rotation = screenIn t .rotation; flag = screenIn t .flag }) (refusedBy (refusalOf m t room .number) (refusalOf m t room .place))
 
-      chosen : (b : Bool) → Placed (length (t .list) / t .size) (record { number = told b .number; place = told b .place })
+      chosen : (b : Bool) → Placed (length (t .list) / t .form) (record { number = told b .number; place = told b .place })
       chosen true = inr (inl (omega arith), refl)
       chosen false = refusal-placed
 
   -- the place of 12 to 15 is that of a command
-  pub command-place : 12 ≤ compiling m t room .number → compiling m t room .number ≤ 15 → compiling m t room .place < length (t .list) / t .size
+  pub command-place : 12 ≤ compiling m t room .number → compiling m t room .number ≤ 15 → compiling m t room .place < length (t .list) / t .form
   command-place p q = taken places
     where
-      taken : Placed (length (t .list) / t .size) (record { number = compiling m t room .number; place = compiling m t room .place }) → compiling m t room .place < length (t .list) / t .size
+      taken : Placed (length (t .list) / t .form) (record { number = compiling m t room .number; place = compiling m t room .place }) → compiling m t room .place < length (t .list) / t .form
       taken (inl h) = h .2
       taken (inr h) = other (h .0)
         where
-          other : (compiling m t room .number ≤ 11) ⊎ (16 ≤ compiling m t room .number) → compiling m t room .place < length (t .list) / t .size
+          other : (compiling m t room .number ≤ 11) ⊎ (16 ≤ compiling m t room .number) → compiling m t room .place < length (t .list) / t .form
           other (inl k) = absurd (omega arith)
           other (inr k) = absurd (omega arith)

@@ -14,15 +14,16 @@ use Rattle.screen.specs.Values.{windowX, windowY, originOf, valuesOf}
 use Rattle.screen.specs.Cases.{withWindow}
 use Rattle.command.specs.Command.{commandOf, surfaceOf, mustBeZero, formed, insideImage, placed, lineWords, wordsTaken, commandRows, refusal}
 use Rattle.command.specs.Values.{addressOf, destinationOf, sourceOf, isNegative, lastColumn, lastLine, commandValue, sourceValue, destinationValue, controlValue, blitValues}
-use Rattle.command.specs.Task.{commandSize, task, listRows, firstRefusal, allWords, wordRows, taskRefusal}
-use Rattle.command.proofs.Tasks.{panel, badWindow, fill, move, write, strange, empty, outside, times, fourWords}
+use Rattle.command.specs.Task.{shortForm, longForm, task, listRows, firstRefusal, allWords, wordRows, taskRefusal}
+use Rattle.command.proofs.Tasks.{panel, badWindow, fill, move, write, strange, empty, outside, times, long, fourWords}
 use Rattle.compiler.specs.Stream.{recordsWith, screenRecords, dataRecords, commandRecords, drawRecords, recordsFor}
 use Rattle.compiler.specs.Compile.{roomRows, refusalOf, compiling, streamOf, bufferAfter, compilingOf, answerOf, numbersOf}
 use Rattle.compiler.specs.Part.{partFrom, partSize}
 use Rattle.compiler.specs.declared.Compiled.the-variants.{Accepted, Refused}
 
--- a screen record, a list, host words, and a buffer of `room` sevens, of which the first `shown` bytes are asked for
+-- a list's form, a screen record, a list, host words, and a buffer of `room` sevens, of which the first `shown` bytes are asked for
 pub record Case : Type 0 where
+  pub form : ℕ
   pub screen : List ℕ
   pub list : List ℕ
   pub words : List ℕ
@@ -30,7 +31,10 @@ pub record Case : Type 0 where
   pub shown : ℕ
 
 abbrev case : List ℕ → List ℕ → List ℕ → ℕ → ℕ → Case
-case s l w r n = record { screen = s; list = l; words = w; room = r; shown = n }
+case s l w r n = record { form = shortForm; screen = s; list = l; words = w; room = r; shown = n }
+
+abbrev longCase : List ℕ → List ℕ → List ℕ → ℕ → ℕ → Case
+longCase s l w r n = record { form = longForm; screen = s; list = l; words = w; room = r; shown = n }
 
 -- what compiling gives: its six numbers, where the refused part starts and its length, and the buffer's bytes
 pub record Result : Type 0 where
@@ -42,9 +46,9 @@ pub record Result : Type 0 where
 abbrev run : Case → Result
 run c =
     let old : List ℕ = replicate (c .room) 7 in
-    let t = task (c .screen) (c .list) (c .words) in
+    let t = task (c .form) (c .screen) (c .list) (c .words) in
     let r = compiling memorySize t (c .room) in
-    record { numbers = numbersOf r; from = partFrom commandSize (c .list) r; size = partSize commandSize (c .list) r; bytes = take (c .shown) (bufferAfter memorySize t old) }
+    record { numbers = numbersOf r; from = partFrom (c .form) (c .list) r; size = partSize (c .form) (c .list) r; bytes = take (c .shown) (bufferAfter memorySize t old) }
 
 abbrev accepted : ℕ → ℕ → List ℕ → Result
 accepted length depth bytes = record { numbers = 0 ∷ 0 ∷ length ∷ depth ∷ 0 ∷ 0 ∷ []; from = 0; size = 0; bytes = bytes }
@@ -54,6 +58,9 @@ refused n = record { numbers = n ∷ 0 ∷ 0 ∷ 0 ∷ 0 ∷ 0 ∷ []; from = 0;
 
 abbrev refusedCommand : ℕ → ℕ → Result
 refusedCommand n i = record { numbers = n ∷ i ∷ 0 ∷ 0 ∷ 0 ∷ 0 ∷ []; from = i * 32; size = 32; bytes = 7 ∷ 7 ∷ [] }
+
+abbrev refusedLong : ℕ → ℕ → Result
+refusedLong n i = record { numbers = n ∷ i ∷ 0 ∷ 0 ∷ 0 ∷ 0 ∷ []; from = i * 48; size = 48; bytes = 7 ∷ 7 ∷ [] }
 
 -- S6's screen: turned by 270 degrees, with a window
 abbrev turned : List ℕ
@@ -106,6 +113,14 @@ cases =
     ∷ case (panel 8) (fill ++ strange ++ strange) [] 1000 2
     ∷ case (panel 8) (fill ++ outside ++ strange) [] 1000 2
     ∷ case (panel 8) (write ++ strange) [] 1000 2
+    -- the long form (02, g): three commands, 10 by a short record, a command refused by 12 to 15 each, 17
+    ∷ longCase (panel 8) (long fill ++ long write ++ long move) fourWords 298 298
+    ∷ longCase (panel 8) fill [] 1000 2
+    ∷ longCase (panel 8) (long fill ++ long strange) [] 1000 2
+    ∷ longCase (panel 8) (long fill ++ long empty) [] 1000 2
+    ∷ longCase (panel 8) (long outside ++ long fill) [] 1000 2
+    ∷ longCase (panel 8) (long fill ++ long write ++ long write) (0x201 ∷ 3 ∷ fourWords) 1000 2
+    ∷ longCase (panel 8) (long fill) [] 119 2
     ∷ []
 
 abbrev expected : List Result
@@ -136,6 +151,13 @@ expected =
     ∷ refusedCommand 12 1
     ∷ refusedCommand 14 1
     ∷ refusedCommand 15 0
+    ∷ accepted 296 8 (screenBytes 0x50 ++ fillBytes ++ writeBytes fourWords ++ moveBytes ++ (7 ∷ 7 ∷ []))
+    ∷ refused 10
+    ∷ refusedLong 12 1
+    ∷ refusedLong 13 1
+    ∷ refusedLong 14 0
+    ∷ refusedLong 15 2
+    ∷ refused 17
     ∷ []
 
 pub cases-hold : map run cases ≡ expected

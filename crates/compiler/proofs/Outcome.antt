@@ -17,7 +17,7 @@ use Rattle.screen.specs.Screen.{fieldsOf, screenRows, screenOf}
 use Rattle.screen.specs.declared.Screen.{Screen}
 use Rattle.screen.specs.declared.ScreenAnswer.the-variants as screen-answer
 use Rattle.screen.proofs.Read.{read-accepted}
-use Rattle.command.specs.Task.{Task, screenIn, commandsIn, listRows, firstRefusal, allWords, wordRows, taskRefusal}
+use Rattle.command.specs.Task.{isForm, Task, screenIn, commandsIn, listRows, firstRefusal, allWords, wordRows, taskRefusal}
 use Rattle.command.proofs.Commands.{all-fine, words-suffice}
 use Rattle.command.proofs.Task.{list-says, words-left, words-fit, by-screen, by-list, by-command, by-end}
 use Rattle.compiler.specs.Stream.{screenRecords, drawRecords, recordsFor, recordsIn}
@@ -107,7 +107,7 @@ module _ (m : ℕ) (t : Task) (old : List ℕ) where
   pub told-screen : (n : ℕ) → screenOf m (t .screen) ≡ screen-answer.Refused n → Told m t old (Refused n 0) old
   told-screen n e = let p = refused-screen m (t .screen) n e in task-told m t old n 0 (p .1) (by-screen m t n (p .1) (p .0))
 
-  module _ (s : Screen) (a : screenOf m (t .screen) ≡ screen-answer.Accepted s) (fault : ℕ) (fault-is : fault ≡ firstOf (listRows (t .size) s (t .list))) where
+  module _ (s : Screen) (a : screenOf m (t .screen) ≡ screen-answer.Accepted s) (fault : ℕ) (fault-is : fault ≡ firstOf (listRows (t .form) s (t .list))) where
     -- the screen is its record's fields
     fields : s ≡ screenIn t
     fields = read-accepted m (t .screen) s a .0
@@ -115,14 +115,14 @@ module _ (m : ℕ) (t : Task) (old : List ℕ) where
     rows-pass : firstOf (screenRows m (t .screen)) ≡ 0
     rows-pass = read-accepted m (t .screen) s a .1
 
-    fault-of : fault ≡ firstOf (listRows (t .size) (screenIn t) (t .list))
-    fault-of = fault-is ∙ ap (λ (x : Screen). firstOf (listRows (t .size) x (t .list))) fields
+    fault-of : fault ≡ firstOf (listRows (t .form) (screenIn t) (t .list))
+    fault-of = fault-is ∙ ap (λ (x : Screen). firstOf (listRows (t .form) x (t .list))) fields
 
     pub told-list : (fault ≡ 0 → ⊥) → Told m t old (Refused fault 0) old
     told-list h = task-told m t old fault 0 (omega arith) (by-list m t rows-pass fault (omega arith) (sym fault-of))
 
     module _ (p : Pass) (p-is : p ≡ passOf s (length (t .words)) (commandsIn t)) (none-fault : fault ≡ 0) where
-      no-fault : firstOf (listRows (t .size) (screenIn t) (t .list)) ≡ 0
+      no-fault : firstOf (listRows (t .form) (screenIn t) (t .list)) ≡ 0
       no-fault = sym fault-of ∙ none-fault
 
       pass-of : p ≡ passOf (screenIn t) (length (t .words)) (commandsIn t)
@@ -149,8 +149,8 @@ module _ (m : ℕ) (t : Task) (old : List ℕ) where
         told-left h = task-told m t old 16 0 (lit< tt) (end-is 16 (words-left t (omega (arith, words-are))))
 
         -- the size as the code has it
-        whole-size : 48 + 72 * (length (t .list) / t .size) + 8 * p .used ≡ 8 * length (recordsIn t)
-        whole-size = omega (arith, size-is (screenIn t) (commandsIn t) (t .words) none-refused, words-are, length-parts (t .size) (t .list))
+        whole-size : 48 + 72 * (length (t .list) / t .form) + 8 * p .used ≡ 8 * length (recordsIn t)
+        whole-size = omega (arith, size-is (screenIn t) (commandsIn t) (t .words) none-refused, words-are, length-parts (t .form) (t .list))
 
         module _ (w : length (t .words) ≤ p .used) where
           -- row 17 decides
@@ -159,25 +159,25 @@ module _ (m : ℕ) (t : Task) (old : List ℕ) where
               by-room m t (length old) (ap (λ (r : Refusal). r .number) (end-is 0 (words-fit t (omega (arith, words-are)))))
               ∙ ap (λ (k : ℕ). record { number = k; place = 0 }) (sym e)
 
-          pub told-short : length old < 48 + 72 * (length (t .list) / t .size) + 8 * p .used → Told m t old (Refused 17 0) old
+          pub told-short : length old < 48 + 72 * (length (t .list) / t .form) + 8 * p .used → Told m t old (Refused 17 0) old
           told-short h = refused-told m t old 17 0 (lit< tt) (room-is 17 (room-short t (length old) (omega (arith, whole-size))))
 
-          module _ (h : 48 + 72 * (length (t .list) / t .size) + 8 * p .used ≤ length old) where
+          module _ (h : 48 + 72 * (length (t .list) / t .form) + 8 * p .used ≤ length old) where
             -- what the second pass asks, the screen's records being stored
             pub second-asks : (l1 : List ℕ) → l1 ≡ sets old 0 (streamBytes (screenRecords s))
-                → (length (t .list) ≤ 64 * t .size) × ((firstRefusal s 0 (length (t .words)) (commandsIn t) .number ≡ 0) × (48 + 8 * length (drawRecords s (t .words) (commandsIn t)) ≤ length l1))
+                → (isForm (t .form) ≡ true) × ((firstRefusal s 0 (length (t .words)) (commandsIn t) .number ≡ 0) × (48 + 8 * length (drawRecords s (t .words) (commandsIn t)) ≤ length l1))
             unfolding recordsFor
             second-asks l1 e =
                 let k = length-append (screenRecords (screenIn t)) (drawRecords (screenIn t) (t .words) (commandsIn t)) in
                 let r : 48 + 8 * length (drawRecords (screenIn t) (t .words) (commandsIn t)) ≤ length old = omega (arith, whole-size, k, length-screen (screenIn t)) in
-                (list-says (t .size) (screenIn t) (t .list) no-fault .1, (rw fields none-refused, rw (e, length-sets, fields) r))
+                (list-says (t .form) (screenIn t) (t .list) no-fault .formed, (rw fields none-refused, rw (e, length-sets, fields) r))
 
             pub told-stream : (l1 l2 : List ℕ) → l1 ≡ sets old 0 (streamBytes (screenRecords s)) → l2 ≡ sets l1 48 (streamBytes (drawRecords s (t .words) (commandsIn t)))
-                → Told m t old (Accepted (48 + 72 * (length (t .list) / t .size) + 8 * p .used) (s .depth) (s .rotation) (s .flag)) l2
+                → Told m t old (Accepted (48 + 72 * (length (t .list) / t .form) + 8 * p .used) (s .depth) (s .rotation) (s .flag)) l2
             unfolding recordsFor
             told-stream l1 l2 e f =
                 let g = room-is 0 (room-fits t (length old) (omega (arith, whole-size))) in
                 let d = f ∙ ap (λ (b : List ℕ). sets b 48 (streamBytes (drawRecords s (t .words) (commandsIn t)))) e
                 ∙ sym (stored-both old 0 (screenRecords s) (drawRecords s (t .words) (commandsIn t)) ∙ (rw (length-screen s))) in
-                subst (λ (x : Screen). Told m t old (Accepted (48 + 72 * (length (t .list) / t .size) + 8 * p .used) (x .depth) (x .rotation) (x .flag)) l2) (sym fields)
-                (accepted-told m t old (48 + 72 * (length (t .list) / t .size) + 8 * p .used) l2 (ap (λ (r : Refusal). r .number) g) whole-size h (d ∙ ap (λ (x : Screen). sets old 0 (streamBytes (screenRecords x ++ drawRecords x (t .words) (commandsIn t)))) fields))
+                subst (λ (x : Screen). Told m t old (Accepted (48 + 72 * (length (t .list) / t .form) + 8 * p .used) (x .depth) (x .rotation) (x .flag)) l2) (sym fields)
+                (accepted-told m t old (48 + 72 * (length (t .list) / t .form) + 8 * p .used) l2 (ap (λ (r : Refusal). r .number) g) whole-size h (d ∙ ap (λ (x : Screen). sets old 0 (streamBytes (screenRecords x ++ drawRecords x (t .words) (commandsIn t)))) fields))

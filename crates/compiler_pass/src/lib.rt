@@ -1,12 +1,13 @@
 // The two passes of compiling: the first decides number, place and length, the second writes the stream.
 ghost use mathlib.Core.Path.{_≡_};
 ghost use Prim.Native.Nat.{_+_, _*_, _≤_};
+ghost use mathlib.Core.Bool.{true};
 ghost use lib.ListN.{length};
 ghost use lib.Seq.{sets};
 ghost use Rattle.record.specs.Checks.{firstOf};
 ghost use Rattle.record.specs.Lists.{partsOf};
 ghost use Rattle.record.specs.Record.{streamBytes};
-ghost use Rattle.command.specs.Task.{commandSize, listRows, firstRefusal};
+ghost use Rattle.command.specs.Task.{isForm, listRows, firstRefusal};
 ghost use Rattle.compiler.specs.Stream.{recordsWith, screenRecords, dataRecords, commandRecords, drawRecords};
 ghost use Rattle.compiler.specs.Pass.{passOf};
 use command::Command;
@@ -29,31 +30,32 @@ const BLIT_REGISTERS: [u32; 9] = [
 ];
 
 // Refusals 10 and 11.
-pub fn list_fault(s: Screen, list: &[u8]) -> u32
-    ensures { λ r. ⌜ r ≡ firstOf (listRows commandSize s (now (list .entry))) ⌝ }
+pub fn list_fault(form: u32, s: Screen, list: &[u8]) -> u32
+    ensures { λ r. ⌜ r ≡ firstOf (listRows form s (now (list .entry))) ⌝ }
 {
-    let n = list.len();
-    if !((n % 32 == 0) & (n <= 2048)) {
+    if !command_code::is_list(form, list) {
         return 10;
     }
-    if (0 < n) & (s.depth < 8) {
+    if (0 < list.len()) & (s.depth < 8) {
         return 11;
     }
     0
 }
 
 // The first pass: each command is lent on as a part of the list.
-pub fn first_pass(s: Screen, list: &[u8], left: u64) -> Pass
-    requires { ⌜ length (now list) ≤ 2048 ⌝ }
-    ensures { λ r. ⌜ r ≡ passOf s left (partsOf commandSize (now (list .entry))) ⌝ }
+pub fn first_pass(form: u32, s: Screen, list: &[u8], left: u64) -> Pass
+    requires { ⌜ isForm form ≡ true ⌝ }
+    requires { ⌜ length (now list) ≤ 64 * form ⌝ }
+    ensures { λ r. ⌜ r ≡ passOf s left (partsOf form (now (list .entry))) ⌝ }
     ensures { λ r. ⌜ r .used ≤ 64 * 4294967295 ⌝ }
 {
-    let count = list.len() / 32;
+    let size = form as usize;
+    let count = list.len() / size;
     let mut i: usize = 0;
     let mut used: u64 = 0;
     while i < count {
-        let at = i * 32;
-        let end = at + 32;
+        let at = i * size;
+        let end = at + size;
         let answer = command_code::read_command(s, left - used, &list[at..end]);
         match answer {
             CommandAnswer::Refused(n) => {
@@ -137,19 +139,20 @@ fn put_command(s: Screen, c: Command, buffer: &mut [u8], at: usize, words: &[u16
 }
 
 // The second pass: stores the records of commands that the first pass accepts, behind the screen's.
-pub fn second_pass(s: Screen, list: &[u8], words: &[u16], buffer: &mut [u8])
-    requires { ⌜ length (now list) ≤ 2048 ⌝ }
-    requires { ⌜ firstRefusal s 0 (length (now words)) (partsOf commandSize (now list)) .number ≡ 0 ⌝ }
-    requires { ⌜ 48 + 8 * length (drawRecords s (now words) (partsOf commandSize (now list))) ≤ length (now buffer) ⌝ }
-    ensures { λ _. ⌜ now (buffer .exit) ≡ sets (now (buffer .entry)) 48 (streamBytes (drawRecords s (now (words .entry)) (partsOf commandSize (now (list .entry))))) ⌝ }
+pub fn second_pass(form: u32, s: Screen, list: &[u8], words: &[u16], buffer: &mut [u8])
+    requires { ⌜ isForm form ≡ true ⌝ }
+    requires { ⌜ firstRefusal s 0 (length (now words)) (partsOf form (now list)) .number ≡ 0 ⌝ }
+    requires { ⌜ 48 + 8 * length (drawRecords s (now words) (partsOf form (now list))) ≤ length (now buffer) ⌝ }
+    ensures { λ _. ⌜ now (buffer .exit) ≡ sets (now (buffer .entry)) 48 (streamBytes (drawRecords s (now (words .entry)) (partsOf form (now (list .entry))))) ⌝ }
 {
-    let commands = list.len() / 32;
+    let size = form as usize;
+    let commands = list.len() / size;
     let mut i: usize = 0;
     let mut used: usize = 0;
     let mut at: usize = 48;
     while i < commands {
-        let from = i * 32;
-        let to = from + 32;
+        let from = i * size;
+        let to = from + size;
         let c = command_code::command_of(&list[from..to]);
         let n = command_code::words_taken(s, c) as usize;
         let end = used + n;

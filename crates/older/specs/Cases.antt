@@ -4,13 +4,13 @@ use mathlib.Core.List.{List, [], _∷_}
 use lib.ListN.{replicate}
 use Rattle.screen.specs.Cases.{Case, case, lined, plain, windowLined}
 use Rattle.screen.specs.Values.{sixValues}
-use Rattle.command.specs.Task.{Task, task, screenIn}
+use Rattle.command.specs.Task.{shortForm, Task, task, screenIn}
 use Rattle.older.specs.Bytes.{olderValues}
 use Rattle.older.specs.Compile.{olderRecords, registersIn, bytesIn, olderCompiling}
 
 -- a screen without list and host words
 abbrev alone : List ℕ → Task
-alone screen = task screen [] []
+alone screen = task shortForm screen [] []
 
 -- compiling's answer, 18 records having 144 bytes, and the bytes that are written
 abbrev written : List ℕ → List ℕ
@@ -20,7 +20,7 @@ written screen =
 
 -- the refusal number of a screen, a list of so many bytes, so many host words and a stream buffer of so many bytes
 abbrev number : List ℕ → ℕ → ℕ → ℕ → List ℕ
-number screen list words room = olderCompiling (task screen (replicate list 0) (replicate words 0)) room .number ∷ []
+number screen list words room = olderCompiling (task shortForm screen (replicate list 0) (replicate words 0)) room .number ∷ []
 
 -- 001's panel, 320 by 240 at depth 4, its main image at 0; and with the sub-window's image at 9600h, at (x, y) and of that width and height
 abbrev panel : ℕ → List ℕ
@@ -107,7 +107,7 @@ olderCases =
     ∷ case (number (panel 0) 0 1 0) (16 ∷ [])
     -- all other numbers of a refusal are 0
     ∷ case
-    (let c = olderCompiling (task (panel 1) (replicate 32 0) []) 144 in c .number ∷ c .place ∷ c .length ∷ c .depth ∷ c .rotation ∷ c .flag ∷ [])
+    (let c = olderCompiling (task shortForm (panel 1) (replicate 32 0) []) 144 in c .number ∷ c .place ∷ c .length ∷ c .depth ∷ c .rotation ∷ c .flag ∷ [])
     (11 ∷ 0 ∷ 0 ∷ 0 ∷ 0 ∷ 0 ∷ [])
     -- six values from eighteen bytes: nothing is masked
     ∷ case

@@ -29,7 +29,7 @@ bytesIn rs = map (λ r. r .value) rs
 -- 10; a list that is not empty is 11, at any depth; host words are 16, since no command takes one; 17, for a buffer of `room` bytes
 unfoldable pub lentRows : Task → ℕ → List Row
 lentRows t room =
-    row 10 (not (isList (t .size) (t .list)))
+    row 10 (not (isList (t .form) (t .list)))
     ∷ row 11 (ltb 0 (length (t .list)))
     ∷ row 16 (ltb 0 (length (t .words)))
     ∷ row 17 (ltb room (8 * length (olderRecords (screenIn t))))

@@ -6,7 +6,7 @@ ghost use lib.Seq.{sets};
 ghost use Rattle.record.specs.Checks.{firstOf};
 ghost use Rattle.record.specs.Record.{streamBytes};
 ghost use Rattle.screen.specs.Narrow.{Narrow};
-ghost use Rattle.command.specs.Task.{commandSize, task};
+ghost use Rattle.command.specs.Task.{task};
 ghost use Rattle.compiler.specs.Compile.{compilingOf, answerOf, numbersOf};
 ghost use Rattle.compiler.specs.Part.{RefusedPart};
 ghost use Rattle.reader.specs.Read.{reading, readingOf, answerOf as pointOf};
@@ -116,13 +116,13 @@ fn put_screen(s: Screen, buffer: &mut [u8])
 const LENT_CHECKS: [u32; 4] = [10, 11, 16, 17];
 
 // The first of these that fails; 0 for none.
-fn lent_fault(screen: &[u8], list: &[u8], words: &[u16], stream: &[u8]) -> u32
-    ensures { λ r. ⌜ r ≡ firstOf (lentRows (task (now (screen .entry)) (now (list .entry)) (now (words .entry))) (length (now (stream .entry)))) ⌝ }
+fn lent_fault(form: u32, screen: &[u8], list: &[u8], words: &[u16], stream: &[u8]) -> u32
+    ensures { λ r. ⌜ r ≡ firstOf (lentRows (task form (now (screen .entry)) (now (list .entry)) (now (words .entry))) (length (now (stream .entry)))) ⌝ }
 {
-    let n = list.len();
+    let whole = command_code::is_list(form, list);
     let fails = [
-        !((n % 32 == 0) & (n <= 2048)),
-        0 < n,
+        !whole,
+        0 < list.len(),
         0 < words.len(),
         stream.len() < 144,
     ];
@@ -131,10 +131,10 @@ fn lent_fault(screen: &[u8], list: &[u8], words: &[u16], stream: &[u8]) -> u32
 
 // Compiles: the stream's length with the screen's depth, rotation and flag, or a refusal. The stream buffer then holds
 // the stream, or its old bytes.
-pub fn compile_into(screen: &[u8], list: &[u8], words: &[u16], stream: &mut [u8]) -> Compiled
-    ensures { λ r. ⌜ compilingOf r ≡ olderCompiling (task (now (screen .entry)) (now (list .entry)) (now (words .entry))) (length (now (stream .entry))) ⌝ }
-    ensures { λ r. ⌜ r ≡ answerOf (olderCompiling (task (now (screen .entry)) (now (list .entry)) (now (words .entry))) (length (now (stream .entry)))) ⌝ }
-    ensures { λ r. ⌜ now (stream .exit) ≡ olderBuffer (task (now (screen .entry)) (now (list .entry)) (now (words .entry))) (now (stream .entry)) ⌝ }
+pub fn compile_into(form: u32, screen: &[u8], list: &[u8], words: &[u16], stream: &mut [u8]) -> Compiled
+    ensures { λ r. ⌜ compilingOf r ≡ olderCompiling (task form (now (screen .entry)) (now (list .entry)) (now (words .entry))) (length (now (stream .entry))) ⌝ }
+    ensures { λ r. ⌜ r ≡ answerOf (olderCompiling (task form (now (screen .entry)) (now (list .entry)) (now (words .entry))) (length (now (stream .entry)))) ⌝ }
+    ensures { λ r. ⌜ now (stream .exit) ≡ olderBuffer (task form (now (screen .entry)) (now (list .entry)) (now (words .entry))) (now (stream .entry)) ⌝ }
 {
     let answer = screen_code::read_screen_in(MEMORY, screen);
     match answer {
@@ -142,7 +142,7 @@ pub fn compile_into(screen: &[u8], list: &[u8], words: &[u16], stream: &mut [u8]
             return Compiled::Refused(n, 0);
         }
         ScreenAnswer::Accepted(s) => {
-            let n = lent_fault(screen, list, words, stream);
+            let n = lent_fault(form, screen, list, words, stream);
             if n != 0 {
                 return Compiled::Refused(n, 0);
             }
@@ -155,19 +155,20 @@ pub fn compile_into(screen: &[u8], list: &[u8], words: &[u16], stream: &mut [u8]
 // Compiles, stores the answer's numbers, and hands back the refused command's part of the list: none is, so it is empty, at the list's
 // start.
 pub fn compile<'a>(
+    form: u32,
     screen: &[u8],
     list: &'a [u8],
     words: &[u16],
     stream: &mut [u8],
     answer: &mut [u64; 6],
 ) -> &'a [u8]
-    ensures { λ r. ⌜ RefusedPart commandSize (list .entry) r (olderCompiling (task (now (screen .entry)) (now (list .entry)) (now (words .entry))) (length (now (stream .entry)))) ⌝ }
-    ensures { λ r. ⌜ now (answer .exit) ≡ numbersOf (olderCompiling (task (now (screen .entry)) (now (list .entry)) (now (words .entry))) (length (now (stream .entry)))) ⌝ }
-    ensures { λ r. ⌜ now (stream .exit) ≡ olderBuffer (task (now (screen .entry)) (now (list .entry)) (now (words .entry))) (now (stream .entry)) ⌝ }
+    ensures { λ r. ⌜ RefusedPart form (list .entry) r (olderCompiling (task form (now (screen .entry)) (now (list .entry)) (now (words .entry))) (length (now (stream .entry)))) ⌝ }
+    ensures { λ r. ⌜ now (answer .exit) ≡ numbersOf (olderCompiling (task form (now (screen .entry)) (now (list .entry)) (now (words .entry))) (length (now (stream .entry)))) ⌝ }
+    ensures { λ r. ⌜ now (stream .exit) ≡ olderBuffer (task form (now (screen .entry)) (now (list .entry)) (now (words .entry))) (now (stream .entry)) ⌝ }
 {
-    let c = compile_into(screen, list, words, stream);
+    let c = compile_into(form, screen, list, words, stream);
     compiler_code::store(answer, c);
-    compiler_code::refused_part(list, c)
+    compiler_code::refused_part(form, list, c)
 }
 
 // What panel point (p, q) shows, and where that stands in the S1D13706's memory, or the first refusal number.

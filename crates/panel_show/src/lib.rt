@@ -35,19 +35,19 @@ fn show(asked: Asked, screen: &[u8], values: ScreenValues, memory: &[u8]) {
 }
 
 // Draws the list over the memory.
-fn draw_on(screen: &[u8], list: &[u8], words: &[u16], memory: &mut [u8]) -> Drawn
-    ensures { λ r. ⌜ r ≡ answerOf (drawing memorySize (task (now (screen .entry)) (now (list .entry)) (now (words .entry))) 2097152 (now (memory .entry))) ⌝ }
-    ensures { λ _. ⌜ now (memory .exit) ≡ memoryDrawn memorySize (task (now (screen .entry)) (now (list .entry)) (now (words .entry))) 2097152 (now (memory .entry)) ⌝ }
+fn draw_on(form: u32, screen: &[u8], list: &[u8], words: &[u16], memory: &mut [u8]) -> Drawn
+    ensures { λ r. ⌜ r ≡ answerOf (drawing memorySize (task form (now (screen .entry)) (now (list .entry)) (now (words .entry))) 2097152 (now (memory .entry))) ⌝ }
+    ensures { λ _. ⌜ now (memory .exit) ≡ memoryDrawn memorySize (task form (now (screen .entry)) (now (list .entry)) (now (words .entry))) 2097152 (now (memory .entry)) ⌝ }
 {
     let mut stream = files::stream();
-    unit_code::draw(screen, list, words, &mut stream, memory)
+    unit_code::draw(form, screen, list, words, &mut stream, memory)
 }
 
 // Draws the list over the memory, and writes what is asked for or the refusal.
-pub fn run(asked: Asked, screen: &[u8], list: &[u8], words: &[u16], memory: &mut [u8])
-    ensures { λ _. ⌜ now (memory .exit) ≡ memoryDrawn memorySize (task (now (screen .entry)) (now (list .entry)) (now (words .entry))) 2097152 (now (memory .entry)) ⌝ }
+pub fn run(asked: Asked, form: u32, screen: &[u8], list: &[u8], words: &[u16], memory: &mut [u8])
+    ensures { λ _. ⌜ now (memory .exit) ≡ memoryDrawn memorySize (task form (now (screen .entry)) (now (list .entry)) (now (words .entry))) 2097152 (now (memory .entry)) ⌝ }
 {
-    let drawn = draw_on(screen, list, words, memory);
+    let drawn = draw_on(form, screen, list, words, memory);
     match drawn {
         Drawn::Refused(n, i) => {
             files::print_refusal(n as u64, i);
@@ -62,21 +62,22 @@ pub fn run(asked: Asked, screen: &[u8], list: &[u8], words: &[u16], memory: &mut
 // of the first that refuses.
 pub fn run_through(
     asked: Asked,
+    form: u32,
     screen: &[u8],
     list: &[u8],
     words: &[u16],
     view: &[u8],
     memory: &mut [u8],
 )
-    ensures { λ _. ⌜ now (memory .exit) ≡ memoryDrawn memorySize (task (now (screen .entry)) (now (list .entry)) (now (words .entry))) 2097152 (now (memory .entry)) ⌝ }
+    ensures { λ _. ⌜ now (memory .exit) ≡ memoryDrawn memorySize (task form (now (screen .entry)) (now (list .entry)) (now (words .entry))) 2097152 (now (memory .entry)) ⌝ }
 {
-    let whole = draw_on(screen, list, words, memory);
+    let whole = draw_on(form, screen, list, words, memory);
     match whole {
         Drawn::Refused(n, i) => {
             files::print_refusal(n as u64, i);
         }
         Drawn::Accepted(length, values) => {
-            run(asked, view, &[], &[], memory);
+            run(asked, 32, view, &[], &[], memory);
         }
     }
 }

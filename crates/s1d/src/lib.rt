@@ -34,16 +34,17 @@ use wear::Ask;
 // Compiles a screen record, a list and host words into the stream buffer.
 #[no_mangle]
 pub extern "C" fn s1d_compile(
+    form: u32,
     screen: &[u8],
     list: &[u8],
     words: &[u16],
     stream: &mut [u8],
 ) -> S1dCompiled
-    ensures { λ r. ⌜ r ≡ compiledOf (compiling memorySize (task (now (screen .entry)) (now (list .entry)) (now (words .entry))) (length (now (stream .entry)))) (now (list .entry)) ⌝ }
-    ensures { λ r. ⌜ now (stream .exit) ≡ bufferAfter memorySize (task (now (screen .entry)) (now (list .entry)) (now (words .entry))) (now (stream .entry)) ⌝ }
+    ensures { λ r. ⌜ r ≡ compiledOf form (compiling memorySize (task form (now (screen .entry)) (now (list .entry)) (now (words .entry))) (length (now (stream .entry)))) (now (list .entry)) ⌝ }
+    ensures { λ r. ⌜ now (stream .exit) ≡ bufferAfter memorySize (task form (now (screen .entry)) (now (list .entry)) (now (words .entry))) (now (stream .entry)) ⌝ }
 {
-    let answer = compiler_code::compile_into(screen, list, words, stream);
-    answers_code::compiled_of(answer, list)
+    let answer = compiler_code::compile_into(form, screen, list, words, stream);
+    answers_code::compiled_of(form, answer, list)
 }
 
 // Plays a stream over the display memory.
@@ -116,17 +117,18 @@ pub extern "C" fn s1d_read_point(
 // Compiles, then plays the stream.
 #[no_mangle]
 pub extern "C" fn s1d_draw(
+    form: u32,
     screen: &[u8],
     list: &[u8],
     words: &[u16],
     stream: &mut [u8],
     memory: &mut [u8],
 ) -> S1dDrawn
-    ensures { λ r. ⌜ r ≡ drawnOf (drawing memorySize (task (now (screen .entry)) (now (list .entry)) (now (words .entry))) (length (now (stream .entry))) (now (memory .entry))) ⌝ }
-    ensures { λ r. ⌜ now (stream .exit) ≡ streamDrawn memorySize (task (now (screen .entry)) (now (list .entry)) (now (words .entry))) (now (stream .entry)) (now (memory .entry)) ⌝ }
-    ensures { λ r. ⌜ now (memory .exit) ≡ memoryDrawn memorySize (task (now (screen .entry)) (now (list .entry)) (now (words .entry))) (length (now (stream .entry))) (now (memory .entry)) ⌝ }
+    ensures { λ r. ⌜ r ≡ drawnOf (drawing memorySize (task form (now (screen .entry)) (now (list .entry)) (now (words .entry))) (length (now (stream .entry))) (now (memory .entry))) ⌝ }
+    ensures { λ r. ⌜ now (stream .exit) ≡ streamDrawn memorySize (task form (now (screen .entry)) (now (list .entry)) (now (words .entry))) (now (stream .entry)) (now (memory .entry)) ⌝ }
+    ensures { λ r. ⌜ now (memory .exit) ≡ memoryDrawn memorySize (task form (now (screen .entry)) (now (list .entry)) (now (words .entry))) (length (now (stream .entry))) (now (memory .entry)) ⌝ }
 {
-    let answer = unit_code::draw(screen, list, words, stream, memory);
+    let answer = unit_code::draw(form, screen, list, words, stream, memory);
     answers_code::drawn_of(answer)
 }
 
@@ -164,16 +166,17 @@ pub extern "C" fn s1d_end(player: &mut Player) -> Answer
 // Compiles a screen record for the S1D13706 into the stream buffer.
 #[no_mangle]
 pub extern "C" fn s1d06_compile(
+    form: u32,
     screen: &[u8],
     list: &[u8],
     words: &[u16],
     stream: &mut [u8],
 ) -> S1dCompiled
-    ensures { λ r. ⌜ r ≡ compiledOf (olderCompiling (task (now (screen .entry)) (now (list .entry)) (now (words .entry))) (length (now (stream .entry)))) (now (list .entry)) ⌝ }
-    ensures { λ r. ⌜ now (stream .exit) ≡ olderBuffer (task (now (screen .entry)) (now (list .entry)) (now (words .entry))) (now (stream .entry)) ⌝ }
+    ensures { λ r. ⌜ r ≡ compiledOf form (olderCompiling (task form (now (screen .entry)) (now (list .entry)) (now (words .entry))) (length (now (stream .entry)))) (now (list .entry)) ⌝ }
+    ensures { λ r. ⌜ now (stream .exit) ≡ olderBuffer (task form (now (screen .entry)) (now (list .entry)) (now (words .entry))) (now (stream .entry)) ⌝ }
 {
-    let older = older_code::compile_into(screen, list, words, stream);
-    answers_code::compiled_of(older, list)
+    let older = older_code::compile_into(form, screen, list, words, stream);
+    answers_code::compiled_of(form, older, list)
 }
 
 // The six values that the S1D13706's eighteen register bytes make.

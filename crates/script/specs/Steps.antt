@@ -9,7 +9,7 @@ use mathlib.Core.Bool.{Bool, _||_, cond}
 use lib.ListN.{take, drop, replicate}
 use lib.Dec.{eqb}
 use Rattle.screen.specs.Screen.{memorySize}
-use Rattle.command.specs.Task.{Task, task}
+use Rattle.command.specs.Task.{shortForm, Task, task}
 use Rattle.compiler.specs.Compile.{compiling, bufferAfter, compilingOf, answerOf as compiledFrom}
 use Rattle.compiler.specs.declared.Compiled.{Compiled}
 use Rattle.older.specs.Compile.{olderCompiling, olderBuffer}
@@ -108,7 +108,7 @@ wordsOn desk words = take (numberAt desk 68) words
 
 -- all of it
 abbrev pub taskOn : List ℕ → List ℕ → Task
-taskOn desk words = task (screenOn desk) (listOn desk) (wordsOn desk words)
+taskOn desk words = task shortForm (screenOn desk) (listOn desk) (wordsOn desk words)
 
 -- the answer of the last compiling, for the S1D13A05 or the older S1D13706, into a stream buffer of `room` bytes
 unfoldable pub compiledAfter : ℕ → Compiled → List ℕ → List ℕ → ℕ → Compiled

@@ -129,10 +129,10 @@ pub fn compile(
     let list = &bytes[32..end];
     let taken = &all[..n];
     if k == COMPILE {
-        return compiler_code::compile_into(screen, list, taken, stream);
+        return compiler_code::compile_into(32, screen, list, taken, stream);
     }
     if k == OLDER {
-        return older_code::compile_into(screen, list, taken, stream);
+        return older_code::compile_into(32, screen, list, taken, stream);
     }
     old
 }

@@ -5,7 +5,7 @@ use mathlib.Core.List.{List}
 use lib.Dec.{eqb}
 use Rattle.record.specs.Checks.{firstOf}
 use Rattle.screen.specs.Screen.{memorySize, fieldsOf, screenRows}
-use Rattle.command.specs.Task.{task}
+use Rattle.command.specs.Task.{shortForm, task}
 use Rattle.unit.specs.Draw.{memoryDrawn}
 use Rattle.ring.specs.declared.Ring.{Ring}
 use Rattle.wear.specs.Strip.{Strip, stripFor, stripList, stripWords, stripping}
@@ -21,7 +21,7 @@ askFor depth a =
 -- depth 16, the stream for 2 MiB
 unfoldable pub stripMade : Strip → List ℕ → List ℕ → List ℕ
 stripMade t screen memory =
-    cond (eqb (stripping t 2048 320 .number) 0) (memoryDrawn memorySize (task screen (stripList t) (stripWords t)) 2097152 memory) memory
+    cond (eqb (stripping t 2048 320 .number) 0) (memoryDrawn memorySize (task shortForm screen (stripList t) (stripWords t)) 2097152 memory) memory
 
 -- the memory afterwards: with the strip drawn in the screen's depth, with our factory font, where the screen is accepted
 unfoldable pub stripDrawn : Ring → Ask → List ℕ → List ℕ → List ℕ → List ℕ

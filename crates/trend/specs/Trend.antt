@@ -15,7 +15,7 @@ use Rattle.view.specs.View.{Pixel, pixelAt, viewPixel, inWindow, among}
 use Rattle.reader.specs.Read.{reading}
 use Rattle.chip.specs.Play.{playing, played}
 use Rattle.command.specs.Command.{insideImage}
-use Rattle.command.specs.Task.{Task, task, screenIn, isAccepted}
+use Rattle.command.specs.Task.{shortForm, Task, task, screenIn, isAccepted}
 use Rattle.compiler.specs.Compile.{compiling, streamOf}
 use Rattle.unit.specs.Sheet.{sheetPixel}
 use Rattle.unit.specs.Demands.{streamGiven, displayGiven}
@@ -50,7 +50,7 @@ pub record Colours (a : Ask) : Type 0 where
 
 -- a screen, the strip's list, and exactly its words
 abbrev pub taskWith : List ℕ → Strip → Task
-taskWith screen t = task screen (stripList t) (stripWords t)
+taskWith screen t = task shortForm screen (stripList t) (stripWords t)
 
 -- panel point (p, q) shows pixel (u, v) of the main image
 pub record ShowsMain (s : Screen) (p q u v : ℕ) : Type 0 where

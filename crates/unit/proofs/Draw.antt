@@ -3,7 +3,7 @@ use mathlib.Core.Path.{_≡_, refl, sym, ap, _∙_}
 use mathlib.Core.Bool.{Bool, true, false, true≢false, cond}
 use mathlib.Core.List.{List, []}
 use Prim.Native.Nat.{ℕ, _-_, _≤_}
-use native.Mathlib.Nat.{sub-zero}
+use native.Mathlib.Nat.{sub-zero, zero-div}
 use native.Mathlib.Omega.{arith}
 use lib.ListN.{length, take}
 use borrow.Author.Tests.{eq-eqb, ne-eqb}
@@ -65,10 +65,15 @@ alike : (b : Bool) (x : List ℕ) → cond b x x ≡ x
 alike true x = refl
 alike false x = refl
 
--- an empty list without words changes nothing: accepted, the memory is the sheet after no commands; refused, it is as it was
-pub nothing-drawn : (m : ℕ) (v : List ℕ) (room : ℕ) (old : List ℕ) → memoryDrawn m (task v [] []) room old ≡ old
-unfolding memoryDrawn sheetAfter sheetCommands partsOf partsFrom
-nothing-drawn m v room old = simp alike
+-- an empty list has no command in any form
+no-commands : (form : ℕ) → partsOf form [] ≡ []
+unfolding partsOf partsFrom
+no-commands form = rw (zero-div form)
+
+-- without words it changes nothing: accepted, the memory is the sheet after no commands; refused, it is as it was
+pub nothing-drawn : (m form : ℕ) (v : List ℕ) (room : ℕ) (old : List ℕ) → memoryDrawn m (task form v [] []) room old ≡ old
+unfolding memoryDrawn sheetAfter sheetCommands
+nothing-drawn m form v room old = simp (no-commands form, alike)
 
 module _ (t : Task) (old memory : List ℕ) where
   -- an answer, a stream buffer and a memory that are what drawing promises

@@ -136,7 +136,7 @@ played-keeps t buffer memory a below byte-memory len e h =
     (list-keeps memorySize (screenIn t) (c .fields) (c .flag) (commandsIn t) (λ q. c .deep (some-bytes t q)) (length (t .words)) (c .fine) (t .words) memory a h)
   where
     some-bytes : (t : Task) → 0 < length (commandsIn t) → 0 < length (t .list)
-    some-bytes t q = omega (arith, q, length-parts (t .size) (t .list), div-le-self (length (t .list)) (t .size))
+    some-bytes t q = omega (arith, q, length-parts (t .form) (t .list), div-le-self (length (t .list)) (t .form))
 
 pub kept : Kept
 kept = record { command = fit-keeps; gap = gap-keeps; list = played-keeps }

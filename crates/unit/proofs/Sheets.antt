@@ -20,7 +20,7 @@ use Rattle.command.specs.Command.{commandOf, commandBytes, surfaceOf, mustBeZer
 use Rattle.command.specs.Values.{addressOf, destinationOf, sourceOf, isNegative, lastColumn, lastLine, commandValue, sourceValue, destinationValue, controlValue, blitValues}
 use Rattle.record.specs.Lists.{partsFrom, partsOf}
 use Rattle.compiler.specs.Stream.{recordsWith, screenRecords, dataRecords, commandRecords, drawRecords, recordsFor}
-use Rattle.command.specs.Task.{task, listRows, firstRefusal, allWords, wordRows, taskRefusal}
+use Rattle.command.specs.Task.{shortForm, task, listRows, firstRefusal, allWords, wordRows, taskRefusal}
 use Rattle.compiler.specs.Compile.{roomRows, refusalOf, compiling, streamOf, bufferAfter}
 use Rattle.unit.specs.Sheet.{sheetAddress, sheetBit, sheetPixel, hostPixel, sheetSource, sheetMix, newPixel, changes, sheetByte, sheetCommand, sheetCommands, sheetAfter, sheetShows, shownAddress, shownPlace}
 use Rattle.unit.specs.Point.{sheetPoint}
@@ -144,9 +144,9 @@ outsides = refl
 
 abbrev draws : List ℕ → List ℕ → ℕ → List ℕ → List ℕ
 draws list words room memory =
-    let d = drawing 24 (task (screen 8) list words) room memory in
-    d .number ∷ d .place ∷ d .length ∷ d .values .main .offset ∷ d .values .window .start ∷ d .values .x ∷ take 2 (memoryDrawn 24 (task (screen 8) list words) room memory)
-    ++ take 1 (streamDrawn 24 (task (screen 8) list words) (replicate room 7) memory)
+    let d = drawing 24 (task shortForm (screen 8) list words) room memory in
+    d .number ∷ d .place ∷ d .length ∷ d .values .main .offset ∷ d .values .window .start ∷ d .values .x ∷ take 2 (memoryDrawn 24 (task shortForm (screen 8) list words) room memory)
+    ++ take 1 (streamDrawn 24 (task shortForm (screen 8) list words) (replicate room 7) memory)
 
 -- accepted, with the stream's length and the screen's values; 18 before a refusal of compiling; a refused command with its place; 17
 pub drawings : draws (command 0 0 0 0 1 1 0 0 99) [] 120 old
@@ -166,7 +166,7 @@ drawings = refl
 pub answers : (drawingOf (Refused 13 1)
     ≡ record { number = 13; place = 1; length = 0; values = record { main = record { start = 0; offset = 0 }; window = record { start = 0; offset = 0 }; x = 0; y = 0 } })
     × (answerOf (drawingOf (Refused 13 1)) ≡ Refused 13 1)
-    × (answerOf (drawing 24 (task (screen 8) [] []) 0 []) ≡ Refused 18 0)
+    × (answerOf (drawing 24 (task shortForm (screen 8) [] []) 0 []) ≡ Refused 18 0)
     × (answerOf (drawingOf (Accepted 120 (valuesOf (fieldsOf (screen 8))))) ≡ Accepted 120 (valuesOf (fieldsOf (screen 8))))
 unfolding drawing drawingOf answerOf
 answers = (refl, refl, refl, refl)

@@ -126,7 +126,7 @@ module _ (s : Screen) where
 module _ (m : ℕ) (t : Task) where
   -- 1 to 11, 12 to 15, 16
   abbrev before : List Row
-  before = screenRows m (t .screen) ++ listRows (t .size) (screenIn t) (t .list)
+  before = screenRows m (t .screen) ++ listRows (t .form) (screenIn t) (t .list)
 
   abbrev after : List Row
   after = listedRows (screenIn t) 0 (length (t .words)) (commandsIn t)
@@ -138,11 +138,11 @@ module _ (m : ℕ) (t : Task) where
   inList = firstRefusal (screenIn t) 0 (length (t .words)) (commandsIn t)
 
   before-numbered : Numbered before
-  before-numbered = numbered-append (screenRows m (t .screen)) _ (screen-numbered m (t .screen)) (list-numbered (t .size) (screenIn t) (t .list))
+  before-numbered = numbered-append (screenRows m (t .screen)) _ (screen-numbered m (t .screen)) (list-numbered (t .form) (screenIn t) (t .list))
 
   before-nowhere : firstPlace before ≡ 0
   before-nowhere =
-      placeless before (placeless-append (screenRows m (t .screen)) _ (screen-placeless m (t .screen)) (list-placeless (t .size) (screenIn t) (t .list)))
+      placeless before (placeless-append (screenRows m (t .screen)) _ (screen-placeless m (t .screen)) (list-placeless (t .form) (screenIn t) (t .list)))
 
   after-numbered : Numbered after
   after-numbered = listed-numbered (screenIn t) 0 (length (t .words)) (commandsIn t)
@@ -158,7 +158,7 @@ module _ (m : ℕ) (t : Task) where
       ∙ ap (λ (n : ℕ). cond (eqb n 0) (firstOf ends) n) (listed-first (screenIn t) 0 (length (t .words)) (commandsIn t))
       ∙ sym (parts after ends after-numbered))
       ∙ sym (parts before (after ++ ends) before-numbered)
-      ∙ ap firstOf (append-assoc (screenRows m (t .screen)) (listRows (t .size) (screenIn t) (t .list)) (after ++ ends))
+      ∙ ap firstOf (append-assoc (screenRows m (t .screen)) (listRows (t .form) (screenIn t) (t .list)) (after ++ ends))
 
   -- the place of 12 to 16
   listed-or-ended : (b : Bool) → cond (not b) inList (record { number = firstOf ends; place = 0 }) .place ≡ cond b (firstPlace ends) (firstPlace after)
@@ -178,13 +178,13 @@ module _ (m : ℕ) (t : Task) where
       ∙ ap (λ (n : ℕ). cond (eqb n 0) (firstPlace ends) (firstPlace after)) (listed-first (screenIn t) 0 (length (t .words)) (commandsIn t))
       ∙ sym (place-parts after ends after-numbered))
       ∙ sym (place-parts before (after ++ ends) before-numbered)
-      ∙ ap firstPlace (append-assoc (screenRows m (t .screen)) (listRows (t .size) (screenIn t) (t .list)) (after ++ ends))
+      ∙ ap firstPlace (append-assoc (screenRows m (t .screen)) (listRows (t .form) (screenIn t) (t .list)) (after ++ ends))
 
   task-numbered : Numbered (taskRows m t)
   unfolding taskRows
   task-numbered =
       numbered-append (screenRows m (t .screen)) _ (screen-numbered m (t .screen))
-      (numbered-append (listRows (t .size) (screenIn t) (t .list)) _ (list-numbered (t .size) (screenIn t) (t .list))
+      (numbered-append (listRows (t .form) (screenIn t) (t .list)) _ (list-numbered (t .form) (screenIn t) (t .list))
       (numbered-append after ends after-numbered (word-numbered t)))
 
   -- ---- and 17

@@ -45,13 +45,13 @@ module _ (m : ℕ) (small : m ≤ 262144) (t : Task) (c : Accepted m t) (byte-li
   s = screenIn t
 
   some-bytes : 0 < length (commandsIn t) → 0 < length (t .list)
-  some-bytes h = omega (arith, h, length-parts (t .size) (t .list), div-le-self (length (t .list)) (t .size))
+  some-bytes h = omega (arith, h, length-parts (t .form) (t .list), div-le-self (length (t .list)) (t .form))
 
   -- the commands, behind the six screen records
   pub rest-ends : (memory : List ℕ) → length memory ≡ m
       → Ends m (quiet (valuesOf s) (newChip .blit)) (drawRecords s (t .words) (commandsIn t)) memory (sheetCommands s (commandsIn t) (t .words) memory)
   rest-ends memory len =
-      list-ends m s (c .fields) (c .flag) small (commandsIn t) (λ h. c .deep (some-bytes h)) (t .words) (c .fine) (below-parts 256 (t .size) (t .list) byte-list) word-list (sym (c .taken))
+      list-ends m s (c .fields) (c .flag) small (commandsIn t) (λ h. c .deep (some-bytes h)) (t .words) (c .fine) (below-parts 256 (t .form) (t .list) byte-list) word-list (sym (c .taken))
       (quiet (valuesOf s) (newChip .blit)) refl memory len
 
   pub whole-plays : (memory : List ℕ) (len : length memory ≡ m)

@@ -10,7 +10,7 @@ use Rattle.screen.specs.Screen.{memorySize, fieldsOf}
 use Rattle.screen.specs.Values.{valuesOf}
 use Rattle.reader.specs.Read.{displayOf, lookedAt, addressAt, bitAt}
 use Rattle.command.specs.Command.{commandBytes}
-use Rattle.command.specs.Task.{task, commandsIn}
+use Rattle.command.specs.Task.{shortForm, task, commandsIn}
 use Rattle.compiler.specs.Compile.{compiling, streamOf}
 use Rattle.older.specs.Cases.{exampleCases, olderCases}
 use Rattle.chip.specs.Play.{newChip, run, applied}
@@ -19,7 +19,7 @@ use Rattle.unit.specs.Sheet.{sheetCommands, shownAddress, shownPlace}
 -- a command record: operation, raster code, rectangle, source, colour; on the main image
 abbrev pub command : ℕ → ℕ → ℕ → ℕ → ℕ → ℕ → ℕ → ℕ → ℕ → List ℕ
 command operation raster x y width height sx sy colour =
-    commandBytes (record { operation = operation; surface = 0; raster = raster; x = x; y = y; width = width; height = height; sx = sx; sy = sy; colour = colour })
+    commandBytes (record { operation = operation; surface = 0; raster = raster; x = x; y = y; width = width; height = height; sx = sx; sy = sy; colour = colour; key = 0; px = 0; py = 0; pattern = 0 })
 
 -- the numbers and values of records
 abbrev pairs : List Record → List ℕ
@@ -28,12 +28,12 @@ pairs (r ∷ rs) = r .number ∷ r .value ∷ pairs rs
 
 -- the records of a list without host words
 abbrev records : List ℕ → List ℕ → List Record
-records screen list = recordsOf (streamOf (task screen list []))
+records screen list = recordsOf (streamOf (task shortForm screen list []))
 
 -- what compiling gives: its number, the stream's length, and every record's number and value
 abbrev compiled : List ℕ → List ℕ → List ℕ
 compiled screen list =
-    let c = compiling memorySize (task screen list []) 1024 in c .number ∷ c .length ∷ pairs (records screen list)
+    let c = compiling memorySize (task shortForm screen list []) 1024 in c .number ∷ c .length ∷ pairs (records screen list)
 
 -- a move of 7 by 1 pixels on B2's screen, from x = from to x = to with code Ch: compiling's number and playing's, for a memory of 262,144
 -- bytes; operation, source and destination; then the line of eight bytes, which alone is drawn on, afterwards: by playing and on the sheet
@@ -42,11 +42,11 @@ moved from to =
     let screen = plain 8 0 8 1 0 in
     let list = command 1 0xC to 0 7 1 from 0 0 in
     let line : List ℕ = 1 ∷ 2 ∷ 3 ∷ 4 ∷ 5 ∷ 6 ∷ 7 ∷ 8 ∷ [] in
-    compiling memorySize (task screen list []) 1024 .number
+    compiling memorySize (task shortForm screen list []) 1024 .number
     ∷ run memorySize newChip 0 (records screen list) .number
     ∷ pairs (take 3 (drop 6 (records screen list)))
     ++ applied newChip (records screen list) line
-    ++ sheetCommands (fieldsOf screen) (commandsIn (task screen list [])) [] line
+    ++ sheetCommands (fieldsOf screen) (commandsIn (task shortForm screen list [])) [] line
 
 unfoldable pub drawCases : List Case
 drawCases =

@@ -27,7 +27,7 @@ listedRows s i left (b ∷ bs) =
 unfoldable pub taskRows : ℕ → Task → List Row
 taskRows m t =
     screenRows m (t .screen)
-    ++ (listRows (t .size) (screenIn t) (t .list)
+    ++ (listRows (t .form) (screenIn t) (t .list)
     ++ (listedRows (screenIn t) 0 (length (t .words)) (commandsIn t)
     ++ wordRows t))
 

@@ -16,21 +16,22 @@ use unit::Drawn;
 
 // Compiles, then plays the stream: the memory is then the sheet's, or, on refusal, both buffers are as they were.
 pub fn draw(
+    form: u32,
     screen: &[u8],
     list: &[u8],
     words: &[u16],
     stream: &mut [u8],
     memory: &mut [u8],
 ) -> Drawn
-    ensures { λ r. ⌜ drawingOf r ≡ drawing memorySize (task (now (screen .entry)) (now (list .entry)) (now (words .entry))) (length (now (stream .entry))) (now (memory .entry)) ⌝ }
-    ensures { λ r. ⌜ r ≡ answerOf (drawing memorySize (task (now (screen .entry)) (now (list .entry)) (now (words .entry))) (length (now (stream .entry))) (now (memory .entry))) ⌝ }
-    ensures { λ r. ⌜ now (stream .exit) ≡ streamDrawn memorySize (task (now (screen .entry)) (now (list .entry)) (now (words .entry))) (now (stream .entry)) (now (memory .entry)) ⌝ }
-    ensures { λ r. ⌜ now (memory .exit) ≡ memoryDrawn memorySize (task (now (screen .entry)) (now (list .entry)) (now (words .entry))) (length (now (stream .entry))) (now (memory .entry)) ⌝ }
+    ensures { λ r. ⌜ drawingOf r ≡ drawing memorySize (task form (now (screen .entry)) (now (list .entry)) (now (words .entry))) (length (now (stream .entry))) (now (memory .entry)) ⌝ }
+    ensures { λ r. ⌜ r ≡ answerOf (drawing memorySize (task form (now (screen .entry)) (now (list .entry)) (now (words .entry))) (length (now (stream .entry))) (now (memory .entry))) ⌝ }
+    ensures { λ r. ⌜ now (stream .exit) ≡ streamDrawn memorySize (task form (now (screen .entry)) (now (list .entry)) (now (words .entry))) (now (stream .entry)) (now (memory .entry)) ⌝ }
+    ensures { λ r. ⌜ now (memory .exit) ≡ memoryDrawn memorySize (task form (now (screen .entry)) (now (list .entry)) (now (words .entry))) (length (now (stream .entry))) (now (memory .entry)) ⌝ }
 {
     if memory.len() != 262144 {
         return Drawn::Refused(18, 0);
     }
-    let compiled = compiler_code::compile_into(screen, list, words, stream);
+    let compiled = compiler_code::compile_into(form, screen, list, words, stream);
     match compiled {
         Compiled::Refused(n, i) => Drawn::Refused(n, i),
         Compiled::Accepted(length, depth, rotation, flag) => {

@@ -17,7 +17,7 @@ use Rattle.wear.specs.declared.StripAnswer.the-variants.{Made, Refused}
 
 abbrev command : ℕ → ℕ → ℕ → ℕ → ℕ → ℕ → ℕ → Command
 command operation raster x y width height colour =
-    record { operation = operation; surface = 0; raster = raster; x = x; y = y; width = width; height = height; sx = 0; sy = 0; colour = colour }
+    record { operation = operation; surface = 0; raster = raster; x = x; y = y; width = width; height = height; sx = 0; sy = 0; colour = colour; key = 0; px = 0; py = 0; pattern = 0 }
 
 -- ---- the commands
 -- three hours of heights 0, 100 and 37 at (10, 20), 3 pixels each, bars of colour 5 on 9

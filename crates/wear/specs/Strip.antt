@@ -52,12 +52,12 @@ glyphSize = 8
 -- a fill on the main image
 abbrev pub fillAt : ℕ → ℕ → ℕ → ℕ → ℕ → Command
 fillAt x y width height colour =
-    record { operation = 0; surface = 0; raster = 0; x = x; y = y; width = width; height = height; sx = 0; sy = 0; colour = colour }
+    record { operation = 0; surface = 0; raster = 0; x = x; y = y; width = width; height = height; sx = 0; sy = 0; colour = colour; key = 0; px = 0; py = 0; pattern = 0 }
 
 -- a write of a glyph on the main image, "with code Ch"
 abbrev pub glyphAt : ℕ → ℕ → Command
 glyphAt x y =
-    record { operation = 2; surface = 0; raster = 0xC; x = x; y = y; width = glyphSize; height = glyphSize; sx = 0; sy = 0; colour = 0 }
+    record { operation = 2; surface = 0; raster = 0xC; x = x; y = y; width = glyphSize; height = glyphSize; sx = 0; sy = 0; colour = 0; key = 0; px = 0; py = 0; pattern = 0 }
 
 -- column c: "a background fill, then a bar as many lines high as the sample, on the lowest line; height 0 or a blank hour gives no bar"
 unfoldable pub column : Ask → ℕ → ℕ → List Command

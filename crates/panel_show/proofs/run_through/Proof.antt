@@ -38,7 +38,7 @@ same-length-2 : tie.Need-same-length-2
 same-length-2 c = search needs
 
 returns-2 : tie.Need-returns-2
-returns-2 c = c .before .before .run .ensures ∙ nothing-drawn _ _ _ _ ∙ c .before .before .before .before .before .before .before .before .before .before .before .draw-on .ensures .1
+returns-2 c = c .before .before .run .ensures ∙ nothing-drawn _ _ _ _ _ ∙ c .before .before .before .before .before .before .before .before .before .before .before .draw-on .ensures .1
 
 pub run-through-spec : {M : Type 1} → statement M
 run-through-spec =

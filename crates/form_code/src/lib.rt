@@ -1,0 +1,121 @@
+// Turning a command list into its other form.
+ghost use mathlib.Core.Path.{_≡_};
+ghost use mathlib.Core.Bool.{true};
+ghost use Prim.Native.Nat.{_+_, _*_, _/_, _≤_};
+ghost use lib.ListN.{length, replicate};
+ghost use lib.Seq.{sets};
+ghost use Rattle.record.specs.Lists.{partsOf};
+ghost use Rattle.command.specs.Task.{shortForm, longForm, isForm};
+ghost use Rattle.form.specs.Turn.{recordIn, turnedList, anyStaysLong, turning, turnedInto};
+use form::Turned;
+
+// Whether a record of the list, in a form, has no short one: by its operation, or by a byte past 31.
+fn any_stays_long(form: u32, list: &[u8]) -> bool
+    requires { ⌜ isForm form ≡ true ⌝ }
+    ensures { λ r. ⌜ r ≡ anyStaysLong (partsOf form (now (list .entry))) ⌝ }
+{
+    let size = form as usize;
+    let count = list.len() / size;
+    let mut any = false;
+    let mut i: usize = 0;
+    while i < count {
+        let at = i * size;
+        let past = at + 32;
+        let end = at + size;
+        let zero = record_code::all_zero(&list[past..end]);
+        any = any | ((2 < list[at]) | !zero);
+        i += 1;
+    }
+    any
+}
+
+// Stores bytes from `at` on.
+fn put_bytes(target: &mut [u8], at: usize, bytes: &[u8])
+    requires { ⌜ at + length (now bytes) ≤ length (now target) ⌝ }
+    ensures { λ _. ⌜ now (target .exit) ≡ sets (now (target .entry)) at (now (bytes .entry)) ⌝ }
+{
+    let mut i = 0;
+    while i < bytes.len() {
+        target[at + i] = bytes[i];
+        i += 1;
+    }
+}
+
+// Stores n zeros from `at` on.
+fn put_zeros(target: &mut [u8], at: usize, n: usize)
+    requires { ⌜ at + n ≤ length (now target) ⌝ }
+    ensures { λ _. ⌜ now (target .exit) ≡ sets (now (target .entry)) at (replicate n 0) ⌝ }
+{
+    let mut i = 0;
+    while i < n {
+        target[at + i] = 0;
+        i += 1;
+    }
+}
+
+// Stores a record in a form from `at` on.
+fn put_record(b: &[u8], form: u32, target: &mut [u8], at: usize)
+    requires { ⌜ isForm form ≡ true ⌝ }
+    requires { ⌜ 32 ≤ length (now b) ⌝ }
+    requires { ⌜ at + form ≤ length (now target) ⌝ }
+    ensures { λ _. ⌜ now (target .exit) ≡ sets (now (target .entry)) at (recordIn form (now (b .entry))) ⌝ }
+{
+    put_bytes(target, at, &b[0..32]);
+    put_zeros(target, at + 32, form as usize - 32);
+}
+
+// Stores a list in form `from`, turned into form `to`, at the target's start.
+fn put_list(from: u32, to: u32, list: &[u8], target: &mut [u8])
+    requires { ⌜ isForm from ≡ true ⌝ }
+    requires { ⌜ isForm to ≡ true ⌝ }
+    requires { ⌜ length (now list) / from * to ≤ length (now target) ⌝ }
+    ensures { λ _. ⌜ now (target .exit) ≡ sets (now (target .entry)) 0 (turnedList from to (now (list .entry))) ⌝ }
+{
+    let size = from as usize;
+    let step = to as usize;
+    let count = list.len() / size;
+    let mut i: usize = 0;
+    while i < count {
+        let at = i * size;
+        let end = at + size;
+        put_record(&list[at..end], to, target, i * step);
+        i += 1;
+    }
+}
+
+// Turns a list in form `from` into form `to`, or says why not.
+fn turn(from: u32, to: u32, list: &[u8], target: &mut [u8]) -> Turned
+    requires { ⌜ isForm from ≡ true ⌝ }
+    requires { ⌜ isForm to ≡ true ⌝ }
+    ensures { λ r. ⌜ r ≡ turning from to (now (list .entry)) (length (now (target .entry))) ⌝ }
+    ensures { λ r. ⌜ now (target .exit) ≡ turnedInto from to (now (list .entry)) (now (target .entry)) ⌝ }
+{
+    if !command_code::is_list(from, list) {
+        return Turned { number: 10, length: 0 };
+    }
+    let length = list.len() as u64 / from as u64 * to as u64;
+    if (target.len() as u64) < length {
+        return Turned { number: 17, length: 0 };
+    }
+    if (to < from) & any_stays_long(from, list) {
+        return Turned { number: 28, length: 0 };
+    }
+    put_list(from, to, list, target);
+    Turned { number: 0, length }
+}
+
+// Turns a list of 32-byte records into one of 48-byte records.
+pub fn to_long(list: &[u8], target: &mut [u8]) -> Turned
+    ensures { λ r. ⌜ r ≡ turning shortForm longForm (now (list .entry)) (length (now (target .entry))) ⌝ }
+    ensures { λ r. ⌜ now (target .exit) ≡ turnedInto shortForm longForm (now (list .entry)) (now (target .entry)) ⌝ }
+{
+    turn(32, 48, list, target)
+}
+
+// Turns a list of 48-byte records back into one of 32-byte records.
+pub fn to_short(list: &[u8], target: &mut [u8]) -> Turned
+    ensures { λ r. ⌜ r ≡ turning longForm shortForm (now (list .entry)) (length (now (target .entry))) ⌝ }
+    ensures { λ r. ⌜ now (target .exit) ≡ turnedInto longForm shortForm (now (list .entry)) (now (target .entry)) ⌝ }
+{
+    turn(48, 32, list, target)
+}
