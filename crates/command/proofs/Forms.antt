@@ -1,15 +1,17 @@
 -- The forms of a list, and a list's parts in one of them.
 use Prim.Native.Nat.{ℕ, _+_, _-_, _*_, _/_, _%_, _<_, _≤_}
-use mathlib.Core.Path.{_≡_, refl, sym, subst}
+use mathlib.Core.Path.{_≡_, sym}
 use mathlib.Core.List.{List}
-use mathlib.Core.Bool.{Bool, true, false, _&&_, _||_, cond}
+use mathlib.Core.Bool.{true, _&&_}
 use mathlib.Core.Logic.{_⊎_, inl, inr, ⊎-elim}
-use native.Mathlib.Nat.{add-sub-cancel-left, div-mul-le-self, mul-le-mul-right, suc-mul}
+use native.Mathlib.Nat.{div-mul-le-self, mul-le-mul-right, suc-mul}
 use native.Mathlib.Omega.{arith}
 use lib.ListN.{length, take, drop, length-drop}
-use lib.Seq.{length-take-le}
+use lib.Seq.{length-take-le, take-all}
 use lib.Dec.{eqb, leb}
 use borrow.Author.Tests.{eqb-true, leb-true}
+use Rattle.record.specs.Bytes.{byteAt, u16At, u32At}
+use Rattle.record.proofs.Lists.{nothing-past}
 use Rattle.record.proofs.Choice.{and-left, and-right, or-elim}
 use Rattle.command.specs.Task.{shortForm, longForm, isForm, isList}
 
@@ -27,13 +29,28 @@ form-most n e = ⊎-elim (λ p. omega arith) (λ p. omega arith) (form-is n e)
 pub form-short : (n : ℕ) → isForm n ≡ true → n < longForm → n ≡ shortForm
 form-short n e h = ⊎-elim (λ p. p) (λ p. absurd (omega arith)) (form-is n e)
 
+-- ---- past the end of a short record
+module _ (b : List ℕ) (e : isForm (length b) ≡ true) (h : length b < longForm) where
+  pub short-byte : (k : ℕ) → shortForm ≤ k → 0 ≡ byteAt b k
+  short-byte k l = sym (nothing-past b k (omega (arith, form-short (length b) e h)))
+
+  pub short-u16 : (k : ℕ) → shortForm ≤ k → 0 ≡ u16At b k
+  short-u16 k l = λ t. short-byte k l t + 256 * short-byte (k + 1) (omega arith) t
+
+  pub short-u32 : (k : ℕ) → shortForm ≤ k → 0 ≡ u32At b k
+  short-u32 k l = λ t. short-u16 k l t + 65536 * short-u16 (k + 2) (omega arith) t
+
+-- ---- all of a record from byte k on
+pub past-all : (k : ℕ) (b : List ℕ) → take (length b - k) (drop k b) ≡ drop k b
+past-all k b = take-all (length b - k) (drop k b) (rw length-drop (omega arith))
+
 -- ---- what row 10 asks
 pub list-is : (form : ℕ) (list : List ℕ) → isList form list ≡ true → (isForm form ≡ true) × (length list % form ≡ 0) × (length list ≤ 64 * form)
 list-is form list e =
     let p = and-right (isForm form) (eqb (length list % form) 0 && leb (length list) (64 * form)) e in (
       and-left (isForm form) (eqb (length list % form) 0 && leb (length list) (64 * form)) e,
       eqb-true (length list % form) 0 (and-left (eqb (length list % form) 0) (leb (length list) (64 * form)) p),
-      leb-true (length list) (64 * form) (and-right (eqb (length list % form) 0) (leb (length list) (64 * form)) p)
+      leb-true (length list) (64 * form) (and-right (eqb (length list % form) 0) (leb (length list) (64 * form)) p),
     )
 
 -- ---- part i of so many whole parts

@@ -1,89 +1,91 @@
-use Prim.Native.Nat.{ℕ, _-_, _*_}
-use mathlib.Core.Path.{_≡_, sym, ap, _∙_}
-use native.Mathlib.Nat.{add-sub-cancel-left}
-use native.Mathlib.Omega.{arith}
-use lib.ListN.{take, drop}
-use borrow.Author.Needs.{needs}
-use Rattle.command.specs.Command.{commandAnswer}
-use Rattle.command.specs.Task.{commandSize}
-use Rattle.compiler.proofs.FirstPass.{Going, partAt, going-start, going-turn, words-fit, pass-refused, pass-done}
 use Rattle.compiler_pass.proofs.first_pass.Statement.{statement}
 use Rattle.compiler_pass.proofs.first_pass.Tie as tie
+use Rattle.compiler_pass.proofs.first_pass.Reads as reads
+use Rattle.compiler_pass.proofs.first_pass.Lts as lts
+use Rattle.command_code.proofs.read_command.Reads as read-command-reads
+use Rattle.command_code.proofs.words_taken.Reads as words-taken-reads
 
 abbrev Inv-loop : tie.InvT-loop
-Inv-loop s list left count i₀ used₀ i used = Going s commandSize list left count i used
+Inv-loop form s list left size count i₀ used₀ i used = ?
 
 abbrev μ-loop : tie.MeasureT-loop
-μ-loop s list left count i₀ used₀ i used = count - i
+μ-loop form s list left size count i₀ used₀ i used = ?
 
--- the answer is that to command i
-answered : (c : tie.After-read-command Inv-loop μ-loop) → commandAnswer (c .before .before .before .before .before .args .s) (c .before .before .before .before .before .args .left - c .before .before .before .loop .used) (partAt commandSize (c .before .before .before .before .before .args .list .now) (c .before .before .before .loop .i)) ≡ c .read-command .result
-answered c =
-    ap (λ (n : ℕ). commandAnswer (c .before .before .before .before .before .args .s) (c .before .before .before .before .before .args .left - c .before .before .before .loop .used) (take n (drop (c .before .before .before .loop .i * 32) (c .before .before .before .before .before .args .list .now)))) (sym (add-sub-cancel-left (c .before .before .before .loop .i * 32) 32))
-    ∙ sym (c .read-command .ensures .0)
+-- src/lib.rt:53:17
+div-count : tie.Need-div-count Inv-loop μ-loop
+div-count c = ?
 
+-- src/lib.rt:56:5
 loop-holds : tie.Need-loop-holds Inv-loop μ-loop
-loop-holds c = going-start _ _ _ _
+loop-holds c = ?
 
+-- src/lib.rt:57:18
 mul-at : tie.Need-mul-at Inv-loop μ-loop
-mul-at c = search needs
+mul-at c = ?
 
+-- src/lib.rt:58:19
 add-end : tie.Need-add-end Inv-loop μ-loop
-add-end c = search needs
+add-end c = ?
 
+-- src/lib.rt:59:52
 sub-read-command : tie.Need-sub-read-command Inv-loop μ-loop
-sub-read-command c = search needs
+sub-read-command c = ?
 
+-- src/lib.rt:59:65
 sub-read-command-2 : tie.Need-sub-read-command-2 Inv-loop μ-loop
-sub-read-command-2 c = search needs
+sub-read-command-2 c = ?
 
+-- src/lib.rt:59:65
 part-read-command-start : tie.Need-part-read-command-start Inv-loop μ-loop
-part-read-command-start c = search needs
+part-read-command-start c = ?
 
+-- src/lib.rt:59:65
 part-read-command-end : tie.Need-part-read-command-end Inv-loop μ-loop
-part-read-command-end c = search needs
+part-read-command-end c = ?
 
+-- src/lib.rt:59:13
 read-command-requires : tie.Need-read-command-requires Inv-loop μ-loop
-read-command-requires c κs = search needs
+read-command-requires c κs = ?
 
+-- src/lib.rt:61:36
 enum-known-answer : tie.Need-enum-known-answer Inv-loop μ-loop
-enum-known-answer c = search needs
+enum-known-answer c = ?
 
+-- src/lib.rt:62:17
 returns : tie.Need-returns Inv-loop μ-loop
-returns c =
-    let l = c .before .before .before .before .before .before .loop in
-    (pass-refused _ _ _ _ _ (l .i) (l .used) (l .inv) _ (c .before .before .before .before .before .loop-test .taken) (answered (c .before .before .before) ∙ c .before .answer .given .1), omega arith)
+returns c = ?
 
+-- src/lib.rt:68:37
 enum-known-answer-2 : tie.Need-enum-known-answer-2 Inv-loop μ-loop
-enum-known-answer-2 c = search needs
+enum-known-answer-2 c = ?
 
+-- src/lib.rt:69:25
 words-taken-requires : tie.Need-words-taken-requires Inv-loop μ-loop
-words-taken-requires c κs = search needs
+words-taken-requires c κs = ?
 
+-- src/lib.rt:69:25
 cast-used : tie.Need-cast-used Inv-loop μ-loop
-cast-used c = search needs
+cast-used c = ?
 
+-- src/lib.rt:69:17
 add-used : tie.Need-add-used Inv-loop μ-loop
-add-used c =
-    let l = c .before .before .before .before .before .before .before .loop in
-    omega (arith, c .words-taken .ensures, words-fit _ _ _ _ _ (l .i) (l .used) (l .inv) _ (answered (c .before .before .before .before) ∙ c .before .before .answer2 .given .1))
+add-used c = ?
 
+-- src/lib.rt:70:17
 add-i : tie.Need-add-i Inv-loop μ-loop
-add-i c = search needs
+add-i c = ?
 
+-- src/lib.rt:56:5
 loop-less : tie.Need-loop-less Inv-loop μ-loop
-loop-less c = search needs
+loop-less c = ?
 
+-- src/lib.rt:56:5
 loop-again : tie.Need-loop-again Inv-loop μ-loop
-loop-again c =
-    let l = c .before .before .before .before .before .before .before .loop in
-    rw (c .words-taken .ensures)
-    (going-turn _ _ _ _ _ (l .i) (l .used) (l .inv) _ (c .before .before .before .before .before .before .loop-test .taken) (omega (arith, c .words-taken .ensures, c .words-taken .ok)) (answered (c .before .before .before .before) ∙ c .before .before .answer2 .given .1))
+loop-again c = ?
 
+-- src/lib.rt:46:1
 returns-2 : tie.Need-returns-2 Inv-loop μ-loop
-returns-2 c =
-    let l = c .before .loop in
-    (pass-done _ _ _ _ _ (l .i) (l .used) (l .inv) (c .loop-test .left), omega (arith, l .inv .small, l .inv .within, l .inv .count-is, c .before .before .before .pre))
+returns-2 c = ?
 
 pub first-pass-spec : {M : Type 1} → statement M
 first-pass-spec =
@@ -91,6 +93,7 @@ first-pass-spec =
     (tie.spec
     Inv-loop
     μ-loop
+    div-count
     loop-holds
     mul-at
     add-end
