@@ -1,10 +1,10 @@
 -- The forms of a list, and a list's parts in one of them.
 use Prim.Native.Nat.{ℕ, _+_, _-_, _*_, _/_, _%_, _<_, _≤_}
-use mathlib.Core.Path.{_≡_, sym}
+use mathlib.Core.Path.{_≡_, sym, ap, subst, _∙_}
 use mathlib.Core.List.{List}
 use mathlib.Core.Bool.{true, _&&_}
 use mathlib.Core.Logic.{_⊎_, inl, inr, ⊎-elim}
-use native.Mathlib.Nat.{div-mul-le-self, mul-le-mul-right, suc-mul}
+use native.Mathlib.Nat.{add-sub-cancel-left, mul-comm, div-le-of-le-mul, div-mul-le-self, mul-le-mul-right, suc-mul}
 use native.Mathlib.Omega.{arith}
 use lib.ListN.{length, take, drop, length-drop}
 use lib.Seq.{length-take-le, take-all}
@@ -53,9 +53,20 @@ list-is form list e =
       leb-true (length list) (64 * form) (and-right (eqb (length list % form) 0) (leb (length list) (64 * form)) p),
     )
 
+-- ---- so many bytes have at most 64 parts
+pub count-most : (form n : ℕ) → n ≤ 64 * form → n / form ≤ 64
+count-most form n h = div-le-of-le-mul form (subst (λ (x : ℕ). n ≤ x) (mul-comm 64 form) h)
+
 -- ---- part i of so many whole parts
 pub part-ends : (size n i : ℕ) → i < n / size → i * size + size ≤ n
 part-ends size n i h = omega (arith, suc-mul i size, mul-le-mul-right size h, div-mul-le-self n size)
 
 pub length-part : (size : ℕ) (list : List ℕ) (i : ℕ) → i < length list / size → length (take size (drop (i * size) list)) ≡ size
 length-part size list i h = length-take-le size (drop (i * size) list) (rw length-drop (omega (arith, part-ends size (length list) i h)))
+
+-- the same as code has it, from the part's start to its end: a record in that form
+pub part-formed : (form : ℕ) (list : List ℕ) (i : ℕ) → isForm form ≡ true → i < length list / form → isForm (length (take (i * form + form - i * form) (drop (i * form) list))) ≡ true
+part-formed form list i e h =
+    ap (λ (n : ℕ). isForm (length (take n (drop (i * form) list)))) (add-sub-cancel-left (i * form) form)
+    ∙ ap isForm (length-part form list i h)
+    ∙ e

@@ -1,91 +1,106 @@
+use Prim.Native.Nat.{ℕ, _-_, _*_, _/_, _+_, _<_, _≤_}
+use mathlib.Core.Path.{_≡_, sym, ap, _∙_}
+use native.Mathlib.Nat.{add-sub-cancel-left}
+use native.Mathlib.Omega.{arith}
+use lib.ListN.{length, take, drop}
+use borrow.Author.Needs.{needs}
+use Rattle.command.specs.Command.{commandAnswer}
+use Rattle.command.proofs.Forms.{form-least, part-ends, part-formed, count-most}
+use Rattle.compiler.proofs.FirstPass.{Going, partAt, going-start, going-turn, words-fit, pass-refused, pass-done}
 use Rattle.compiler_pass.proofs.first_pass.Statement.{statement}
 use Rattle.compiler_pass.proofs.first_pass.Tie as tie
-use Rattle.compiler_pass.proofs.first_pass.Reads as reads
-use Rattle.compiler_pass.proofs.first_pass.Lts as lts
-use Rattle.command_code.proofs.read_command.Reads as read-command-reads
-use Rattle.command_code.proofs.words_taken.Reads as words-taken-reads
 
 abbrev Inv-loop : tie.InvT-loop
-Inv-loop form s list left size count i₀ used₀ i used = ?
+Inv-loop form s list left size count i₀ used₀ i used = Going s form list left count i used
 
 abbrev μ-loop : tie.MeasureT-loop
-μ-loop form s list left size count i₀ used₀ i used = ?
+μ-loop form s list left size count i₀ used₀ i used = count - i
 
--- src/lib.rt:53:17
+-- command i is one of the list's, and its part ends in it
+within : (c : tie.In-loop Inv-loop μ-loop) → c .before .loop .i < length (c .before .before .before .args .list .now) / c .before .before .before .args .form
+within c = omega (arith, c .loop-test .taken, c .before .loop .inv .count-is)
+
+ends : (c : tie.In-loop Inv-loop μ-loop) → c .before .loop .i * c .before .before .before .args .form + c .before .before .before .args .form ≤ length (c .before .before .before .args .list .now)
+ends c = part-ends (c .before .before .before .args .form) (length (c .before .before .before .args .list .now)) (c .before .loop .i) (within c)
+
+-- at most 64 commands
+few : (c : tie.After-loop Inv-loop μ-loop) → length (c .before .before .before .args .list .now) / c .before .before .before .args .form ≤ 64
+few c = count-most (c .before .before .before .args .form) (length (c .before .before .before .args .list .now)) (c .before .before .before .pre .1)
+
+-- the answer is that to command i
+answered : (c : tie.After-read-command Inv-loop μ-loop) → let a = c .before .before .before .before .before .args in let l = c .before .before .before .loop in
+    commandAnswer (a .s) (a .left - l .used) (partAt (a .form) (a .list .now) (l .i)) ≡ c .read-command .result
+answered c =
+    let a = c .before .before .before .before .before .args in
+    let l = c .before .before .before .loop in
+    ap (λ (n : ℕ). commandAnswer (a .s) (a .left - l .used) (take n (drop (l .i * a .form) (a .list .now)))) (sym (add-sub-cancel-left (l .i * a .form) (a .form)))
+    ∙ sym (c .read-command .ensures .0)
+
 div-count : tie.Need-div-count Inv-loop μ-loop
-div-count c = ?
+div-count c = omega (arith, form-least (c .before .args .form) (c .before .pre .0))
 
--- src/lib.rt:56:5
 loop-holds : tie.Need-loop-holds Inv-loop μ-loop
-loop-holds c = ?
+loop-holds c = going-start _ _ _ _
 
--- src/lib.rt:57:18
 mul-at : tie.Need-mul-at Inv-loop μ-loop
-mul-at c = ?
+mul-at c = omega (arith, ends c)
 
--- src/lib.rt:58:19
 add-end : tie.Need-add-end Inv-loop μ-loop
-add-end c = ?
+add-end c = omega (arith, ends c)
 
--- src/lib.rt:59:52
 sub-read-command : tie.Need-sub-read-command Inv-loop μ-loop
-sub-read-command c = ?
+sub-read-command c = search needs
 
--- src/lib.rt:59:65
 sub-read-command-2 : tie.Need-sub-read-command-2 Inv-loop μ-loop
-sub-read-command-2 c = ?
+sub-read-command-2 c = search needs
 
--- src/lib.rt:59:65
 part-read-command-start : tie.Need-part-read-command-start Inv-loop μ-loop
-part-read-command-start c = ?
+part-read-command-start c = search needs
 
--- src/lib.rt:59:65
 part-read-command-end : tie.Need-part-read-command-end Inv-loop μ-loop
-part-read-command-end c = ?
+part-read-command-end c = omega (arith, ends c)
 
--- src/lib.rt:59:13
 read-command-requires : tie.Need-read-command-requires Inv-loop μ-loop
-read-command-requires c κs = ?
+read-command-requires c κs = part-formed (c .before .before .before .before .args .form) (c .before .before .before .before .args .list .now) (c .before .before .loop .i) (c .before .before .before .before .pre .0) (within (c .before))
 
--- src/lib.rt:61:36
 enum-known-answer : tie.Need-enum-known-answer Inv-loop μ-loop
-enum-known-answer c = ?
+enum-known-answer c = search needs
 
--- src/lib.rt:62:17
 returns : tie.Need-returns Inv-loop μ-loop
-returns c = ?
+returns c =
+    let l = c .before .before .before .before .before .before .loop in
+    (pass-refused _ _ _ _ _ (l .i) (l .used) (l .inv) _ (c .before .before .before .before .before .loop-test .taken) (answered (c .before .before .before) ∙ c .before .answer .given .1), omega arith)
 
--- src/lib.rt:68:37
 enum-known-answer-2 : tie.Need-enum-known-answer-2 Inv-loop μ-loop
-enum-known-answer-2 c = ?
+enum-known-answer-2 c = search needs
 
--- src/lib.rt:69:25
 words-taken-requires : tie.Need-words-taken-requires Inv-loop μ-loop
-words-taken-requires c κs = ?
+words-taken-requires c κs = search needs
 
--- src/lib.rt:69:25
 cast-used : tie.Need-cast-used Inv-loop μ-loop
-cast-used c = ?
+cast-used c = search needs
 
--- src/lib.rt:69:17
 add-used : tie.Need-add-used Inv-loop μ-loop
-add-used c = ?
+add-used c =
+    let l = c .before .before .before .before .before .before .before .loop in
+    omega (arith, c .words-taken .ensures, words-fit _ _ _ _ _ (l .i) (l .used) (l .inv) _ (answered (c .before .before .before .before) ∙ c .before .before .answer2 .given .1))
 
--- src/lib.rt:70:17
 add-i : tie.Need-add-i Inv-loop μ-loop
-add-i c = ?
+add-i c = omega (arith, c .before .before .before .before .before .before .loop-test .taken, c .before .before .before .before .before .before .before .loop .inv .count-is, count-most (c .before .before .before .before .before .before .before .before .before .args .form) (length (c .before .before .before .before .before .before .before .before .before .args .list .now)) (c .before .before .before .before .before .before .before .before .before .pre .1))
 
--- src/lib.rt:56:5
 loop-less : tie.Need-loop-less Inv-loop μ-loop
-loop-less c = ?
+loop-less c = search needs
 
--- src/lib.rt:56:5
 loop-again : tie.Need-loop-again Inv-loop μ-loop
-loop-again c = ?
+loop-again c =
+    let l = c .before .before .before .before .before .before .before .loop in
+    rw (c .words-taken .ensures)
+    (going-turn _ _ _ _ _ (l .i) (l .used) (l .inv) _ (c .before .before .before .before .before .before .loop-test .taken) (omega (arith, c .words-taken .ensures, c .words-taken .ok)) (answered (c .before .before .before .before) ∙ c .before .before .answer2 .given .1))
 
--- src/lib.rt:46:1
 returns-2 : tie.Need-returns-2 Inv-loop μ-loop
-returns-2 c = ?
+returns-2 c =
+    let l = c .before .loop in
+    (pass-done _ _ _ _ _ (l .i) (l .used) (l .inv) (c .loop-test .left), omega (arith, l .inv .small, l .inv .within, few c))
 
 pub first-pass-spec : {M : Type 1} → statement M
 first-pass-spec =

@@ -1,112 +1,122 @@
+use Prim.Native.Nat.{ℕ, _+_, _-_, _*_, _/_, _^_, _<_, _≤_}
+use mathlib.Core.Path.{_≡_, ap, _∙_}
+use native.Mathlib.Nat.{add-sub-cancel-left, div-le-self}
+use native.Mathlib.Omega.{arith}
+use lib.ListN.{length, take, drop}
+use borrow.Author.Needs.{needs}
+use Rattle.command.specs.Command.{commandOf, wordsTaken}
+use Rattle.command.proofs.Forms.{form-least, part-ends, part-formed}
+use Rattle.compiler.proofs.FirstPass.{partAt}
+use Rattle.compiler.proofs.SecondPass.{Writing, writing-start, writing-step, writing-end, words-there, room-there, part-length}
 use Rattle.compiler_pass.proofs.second_pass.Statement.{statement}
 use Rattle.compiler_pass.proofs.second_pass.Tie as tie
-use Rattle.compiler_pass.proofs.second_pass.Reads as reads
-use Rattle.compiler_pass.proofs.second_pass.Lts as lts
-use Rattle.command_code.proofs.command_of.Reads as command-of-reads
-use Rattle.command_code.proofs.words_taken.Reads as words-taken-reads
-use Rattle.compiler_pass.proofs.put_command.Reads as put-command-reads
 
 abbrev Inv-loop : tie.InvT-loop
-Inv-loop form s list words buffer₀ size commands i₀ used₀ at₀ buffer i used at = ?
+Inv-loop form s list words buffer₀ size commands i₀ used₀ at₀ buffer i used at = Writing s form list words buffer₀ buffer commands i used at
 
 abbrev μ-loop : tie.MeasureT-loop
-μ-loop form s list words buffer₀ size commands i₀ used₀ at₀ buffer i used at = ?
+μ-loop form s list words buffer₀ size commands i₀ used₀ at₀ buffer i used at = commands - i
 
--- src/lib.rt:149:20
+-- command i is one of the list's, and its part ends in it
+within : (c : tie.In-loop Inv-loop μ-loop) → c .before .loop .i < length (c .before .before .before .before .before .args .list .now) / c .before .before .before .before .before .args .form
+within c = omega (arith, c .loop-test .taken, c .before .loop .inv .count-is)
+
+ends : (c : tie.In-loop Inv-loop μ-loop) → c .before .loop .i * c .before .before .before .before .before .args .form + c .before .before .before .before .before .args .form ≤ length (c .before .before .before .before .before .args .list .now)
+ends c = part-ends (c .before .before .before .before .before .args .form) (length (c .before .before .before .before .before .args .list .now)) (c .before .loop .i) (within c)
+
+-- the command is that of part i, its words are left, and its records have room
+command-is : (c : tie.After-command-of Inv-loop μ-loop) → c .command-of .result ≡ commandOf (partAt (c .before .before .before .before .before .before .before .args .form) (c .before .before .before .before .before .before .before .args .list .now) (c .before .before .before .loop .i))
+command-is c = c .command-of .ensures ∙ ap (λ (n : ℕ). commandOf (take n (drop (c .before .before .before .loop .i * c .before .before .before .before .before .before .before .args .form) (c .before .before .before .before .before .before .before .args .list .now)))) (add-sub-cancel-left (c .before .before .before .loop .i * c .before .before .before .before .before .before .before .args .form) (c .before .before .before .before .before .before .before .args .form))
+
+words-left : (c : tie.After-command-of Inv-loop μ-loop) → c .before .before .before .loop .used + wordsTaken (c .before .before .before .before .before .before .before .args .s) (c .command-of .result) ≤ length (c .before .before .before .before .before .before .before .args .words .now)
+words-left c = let l = c .before .before .before .loop in words-there _ _ _ _ _ (l .buffer) _ (l .i) (l .used) (l .at) (l .inv) _ (c .before .before .loop-test .taken) (command-is c)
+
+room-left : (c : tie.After-command-of Inv-loop μ-loop) → c .before .before .before .loop .at + 72 + 8 * wordsTaken (c .before .before .before .before .before .before .before .args .s) (c .command-of .result) ≤ length (c .before .before .before .loop .buffer)
+room-left c = let l = c .before .before .before .loop in room-there _ _ _ _ _ (l .buffer) _ (l .i) (l .used) (l .at) (l .inv) _ (c .before .before .loop-test .taken) (command-is c)
+
+-- where the next command's records start
+next-at : (c : tie.After-slice-known2 Inv-loop μ-loop) → c .before .before .before .before .before .before .before .before .before .loop .at + 72 + 8 * c .before .before .before .before .before .words-taken .result < 2 ^ 64
+next-at c = omega (arith, room-left (c .before .before .before .before .before .before), c .before .before .before .before .before .words-taken .ensures, c .before .before .before .before .before .before .before .before .before .loop .inv .same, c .before .before .before .before .before .before .before .before .before .before .before .before .before .good)
+
 div-commands : tie.Need-div-commands Inv-loop μ-loop
-div-commands c = ?
+div-commands c = omega (arith, form-least (c .before .before .before .args .form) (c .before .before .before .pre .0))
 
--- src/lib.rt:153:5
 loop-holds : tie.Need-loop-holds Inv-loop μ-loop
-loop-holds c = ?
+loop-holds c = writing-start _ _ _ _ _ (c .before .before .before .pre .1 .0) (c .before .before .before .pre .1 .1)
 
--- src/lib.rt:154:20
 mul-from : tie.Need-mul-from Inv-loop μ-loop
-mul-from c = ?
+mul-from c = omega (arith, ends c, c .before .before .before .before .before .good)
 
--- src/lib.rt:155:18
 add-to : tie.Need-add-to Inv-loop μ-loop
-add-to c = ?
+add-to c = omega (arith, ends c, c .before .before .before .before .before .good)
 
--- src/lib.rt:156:42
 sub-command-of : tie.Need-sub-command-of Inv-loop μ-loop
-sub-command-of c = ?
+sub-command-of c = search needs
 
--- src/lib.rt:156:42
 part-command-of-start : tie.Need-part-command-of-start Inv-loop μ-loop
-part-command-of-start c = ?
+part-command-of-start c = search needs
 
--- src/lib.rt:156:42
 part-command-of-end : tie.Need-part-command-of-end Inv-loop μ-loop
-part-command-of-end c = ?
+part-command-of-end c = omega (arith, ends c)
 
--- src/lib.rt:156:13
 command-of-requires : tie.Need-command-of-requires Inv-loop μ-loop
-command-of-requires c κs = ?
+command-of-requires c κs = part-formed (c .before .before .before .before .before .before .args .form) (c .before .before .before .before .before .before .args .list .now) (c .before .before .loop .i) (c .before .before .before .before .before .before .pre .0) (within (c .before))
 
--- src/lib.rt:157:17
 words-taken-requires : tie.Need-words-taken-requires Inv-loop μ-loop
-words-taken-requires c κs = ?
+words-taken-requires c κs = search needs
 
--- src/lib.rt:157:17
 cast-n : tie.Need-cast-n Inv-loop μ-loop
-cast-n c = ?
+cast-n c = search needs
 
--- src/lib.rt:158:19
 add-end : tie.Need-add-end Inv-loop μ-loop
-add-end c = ?
+add-end c = omega (arith, words-left (c .before), c .words-taken .ensures, c .before .before .before .before .before .before .before .before .good)
 
--- src/lib.rt:159:39
 mul-put-command : tie.Need-mul-put-command Inv-loop μ-loop
-mul-put-command c = ?
+mul-put-command c = omega (arith, words-left (c .before .before), c .before .before .before .before .before .before .before .before .before .good)
 
--- src/lib.rt:159:39
 sub-put-command : tie.Need-sub-put-command Inv-loop μ-loop
-sub-put-command c = ?
+sub-put-command c = search needs
 
--- src/lib.rt:159:39
 part-put-command-start : tie.Need-part-put-command-start Inv-loop μ-loop
-part-put-command-start c = ?
+part-put-command-start c = search needs
 
--- src/lib.rt:159:39
 part-put-command-end : tie.Need-part-put-command-end Inv-loop μ-loop
-part-put-command-end c = ?
+part-put-command-end c = omega (arith, words-left (c .before .before), c .before .words-taken .ensures)
 
--- src/lib.rt:159:9
 put-command-requires : tie.Need-put-command-requires Inv-loop μ-loop
-put-command-requires c κs = ?
+put-command-requires c κs =
+    let p = c .before .before .before in
+    let l = p .before .before .before .loop in
+    let n = c .before .before .words-taken in
+    omega (arith, room-left p, n .ensures, part-length _ _ _ _ _ (l .buffer) _ (l .i) (l .used) (l .at) (l .inv) _ (p .before .before .loop-test .taken) (command-is p) (n .result) (n .ensures))
 
--- src/lib.rt:160:14
 add-at : tie.Need-add-at Inv-loop μ-loop
-add-at c = ?
+add-at c = omega (arith, next-at c)
 
--- src/lib.rt:160:24
 mul-at : tie.Need-mul-at Inv-loop μ-loop
-mul-at c = ?
+mul-at c = omega (arith, next-at c)
 
--- src/lib.rt:160:14
 add-at-2 : tie.Need-add-at-2 Inv-loop μ-loop
-add-at-2 c = ?
+add-at-2 c = omega (arith, next-at c)
 
--- src/lib.rt:162:9
 add-i : tie.Need-add-i Inv-loop μ-loop
-add-i c = ?
+add-i c = omega (arith, c .before .before .before .before .before .before .before .before .loop-test .taken, c .before .before .before .before .before .before .before .before .before .loop .inv .count-is, div-le-self (length (c .before .before .before .before .before .before .before .before .before .before .before .before .before .args .list .now)) (c .before .before .before .before .before .before .before .before .before .before .before .before .before .args .form), (c .before .before .before .before .before .before .before .before .before .before .before .before .before .good))
 
--- src/lib.rt:153:5
 loop-less : tie.Need-loop-less Inv-loop μ-loop
-loop-less c = ?
+loop-less c = search needs
 
--- src/lib.rt:153:5
 loop-again : tie.Need-loop-again Inv-loop μ-loop
-loop-again c = ?
+loop-again c =
+    let p = c .before .before .before .before .before .before in
+    let l = p .before .before .before .loop in
+    let n = c .before .before .before .before .before .words-taken in
+    writing-step _ _ _ _ _ (l .buffer) _ (l .i) (l .used) (l .at) (l .inv) _ (p .before .before .loop-test .taken) (command-is p) (n .result) _ (n .ensures) (c .before .before .put-command .ensures)
 
--- src/lib.rt:142:1
 same-length : tie.Need-same-length Inv-loop μ-loop
-same-length c = ?
+same-length c = search needs
 
--- src/lib.rt:142:1
 returns : tie.Need-returns Inv-loop μ-loop
-returns c = ?
+returns c = let l = c .before .loop in writing-end _ _ _ _ _ _ _ (l .i) (l .used) (l .at) (l .inv) (c .loop-test .left)
 
 pub second-pass-spec : {M : Type 1} → statement M
 second-pass-spec =
