@@ -1,3 +1,5 @@
 pub mod Lists
 pub mod Records
 pub mod Decided
+pub mod Accepted
+pub mod Back
