@@ -3,3 +3,5 @@ pub mod Records
 pub mod Decided
 pub mod Accepted
 pub mod Back
+pub mod Commands
+pub mod Same

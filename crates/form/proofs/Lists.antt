@@ -3,9 +3,9 @@ use Prim.Native.Nat.{ℕ, zero, suc, _+_, _-_, _*_, _/_, _%_, _<_, _≤_}
 use mathlib.Core.Path.{_≡_, refl, sym, ap, _∙_}
 use mathlib.Core.List.{List, [], _∷_, _++_, map}
 use mathlib.Core.Bool.{true}
-use native.Mathlib.Nat.{zero-mul, suc-mul, mul-div-cancel, mul-mod-left, mul-le-mul-right, div-add-mod', div-le-of-le-mul, mul-comm}
+use native.Mathlib.Nat.{add-zero, zero-add, zero-mul, suc-mul, mul-div-cancel, mul-mod-left, mul-le-mul-right, div-add-mod', div-le-of-le-mul, mul-comm}
 use native.Mathlib.Omega.{arith}
-use lib.ListN.{length, take, drop, replicate, length-append, length-replicate, length-map}
+use lib.ListN.{length, getD, take, drop, replicate, length-append, length-replicate, length-map}
 use lib.Seq.{length-take-le, take-add, take-all, drop-drop, take-at, drop-at}
 use borrow.Author.Tests.{eq-eqb, le-leb}
 use Rattle.record.specs.Lists.{partsFrom, partsOf}
@@ -92,6 +92,19 @@ list-back size list e =
     list-from size list 0 (length list / size)
     ∙ ap (λ (m : ℕ). take (length list / size * size) (drop m list)) (zero-mul size)
     ∙ take-all (length list / size * size) list (omega (arith, div-add-mod' (length list) size))
+
+-- ---- a part by its place
+part-from : (size : ℕ) (list : List ℕ) (k i n : ℕ) (d : List ℕ) → i < n → getD (partsFrom size list k n) i d ≡ take size (drop ((k + i) * size) list)
+unfolding partsFrom
+part-from size list k i zero d h = absurd (omega arith)
+part-from size list k zero (suc n) d h = ap (λ (j : ℕ). take size (drop (j * size) list)) (sym (add-zero k))
+part-from size list k (suc i) (suc n) d h =
+    let e : suc k + i ≡ k + suc i = omega arith in
+    part-from size list (suc k) i n d (omega arith) ∙ ap (λ (j : ℕ). take size (drop (j * size) list)) e
+
+pub part-at : (size : ℕ) (list : List ℕ) (i : ℕ) (d : List ℕ) → i < length list / size → getD (partsOf size list) i d ≡ take size (drop (i * size) list)
+unfolding partsOf
+part-at size list i d h = part-from size list 0 i (length list / size) d h ∙ ap (λ (j : ℕ). take size (drop (j * size) list)) (zero-add i)
 
 -- ---- a turned list
 module _ (from to : ℕ) (list : List ℕ) where
