@@ -97,11 +97,11 @@ module _ (from to : ℕ) (list : List ℕ) (h : isForm from ≡ true) (k : isFor
       let old = turned-back (l .1) in
       let none = ap anyStaysLong (parts-turned from to list h k) ∙ none-long from to (form-least from h) (partsOf from list) (each-part from list) n in
       let again : Accepted to from long (length back) =
-          record {
-            listed = list-turned from to list (a .listed) k;
-            fits = subst (λ (x : List ℕ). length x ≤ length back) (sym old) fits;
-            short = ap (λ (t : Bool). ltb from to && t) none ∙ never (ltb from to);
-          } in
+      record {
+        listed = list-turned from to list (a .listed) k;
+        fits = subst (λ (x : List ℕ). length x ≤ length back) (sym old) fits;
+        short = ap (λ (t : Bool). ltb from to && t) none ∙ never (ltb from to);
+      } in
       record {
         answer = ap (λ (x : List ℕ). turning to from x (length back)) given ∙ accepted-by to from long (length back) again ∙ ap (λ (x : List ℕ). record { number = 0; length = length x }) old;
         bytes = ap (λ (x : List ℕ). turnedInto to from x back) given ∙ into-is to from long back again ∙ ap (λ (x : List ℕ). over x back) old;

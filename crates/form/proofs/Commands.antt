@@ -101,7 +101,7 @@ module _ (form : ℕ) (s : Screen) where
   first-same i left (b ∷ bs) e =
       let taken = ap (wordsTaken s) (command-same form b (e .0)) in
       let rest : firstRefusal s (suc i) (left - wordsTaken s (commandOf (recordIn form b))) (turned bs) ≡ firstRefusal s (suc i) (left - wordsTaken s (commandOf b)) bs =
-          ap (λ (n : ℕ). firstRefusal s (suc i) (left - n) (turned bs)) taken ∙ first-same (suc i) (left - wordsTaken s (commandOf b)) bs (e .1) in
+      ap (λ (n : ℕ). firstRefusal s (suc i) (left - n) (turned bs)) taken ∙ first-same (suc i) (left - wordsTaken s (commandOf b)) bs (e .1) in
       λ t. cond (eqb (refusal-same form b (e .0) s left t) 0) (rest t) (record { number = refusal-same form b (e .0) s left t; place = i })
 
   pub words-same : (bs : List (List ℕ)) → Each shortForm bs → allWords s (turned bs) ≡ allWords s bs
