@@ -5,3 +5,4 @@ pub mod Accepted
 pub mod Back
 pub mod Commands
 pub mod Same
+pub mod Cases
