@@ -30,14 +30,14 @@ pub each-part : (size : ℕ) (list : List ℕ) → Each size (partsOf size list)
 unfolding partsOf
 each-part size list = each-from size list 0 (length list / size) (omega arith)
 
-pub length-record : (form : ℕ) (b : List ℕ) → shortForm ≤ form → shortForm ≤ length b → length (recordIn form b) ≡ form
-length-record form b h k =
+pub length-in-form : (form : ℕ) (b : List ℕ) → shortForm ≤ form → shortForm ≤ length b → length (recordIn form b) ≡ form
+length-in-form form b h k =
     omega (arith, length-append (take shortForm b) (replicate (form - shortForm) 0), length-take-le shortForm b k, length-replicate {A = ℕ} (form - shortForm) 0)
 
 pub each-turned : (from to : ℕ) (bs : List (List ℕ)) → shortForm ≤ from → shortForm ≤ to → Each from bs → Each to (map (recordIn to) bs)
 unfolding Each
 each-turned from to [] h k e = tt
-each-turned from to (b ∷ bs) h k e = (length-record to b k (omega (arith, e .0)), each-turned from to bs h k (e .1))
+each-turned from to (b ∷ bs) h k e = (length-in-form to b k (omega (arith, e .0)), each-turned from to bs h k (e .1))
 
 pub length-list : (size : ℕ) (bs : List (List ℕ)) → Each size bs → length (listOf bs) ≡ length bs * size
 unfolding Each listOf
