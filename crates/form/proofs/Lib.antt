@@ -1,0 +1,3 @@
+pub mod Lists
+pub mod Loops
+pub mod Answer

@@ -1,0 +1,64 @@
+-- The answer of turning a list, and the target that goes with it, by the way that the checks fall.
+use Prim.Native.Nat.{ℕ, _+_, _*_, _/_, _<_, _≤_}
+use mathlib.Core.Path.{_≡_, refl, sym, ap, _∙_}
+use mathlib.Core.Bool.{true, false, not, _&&_}
+use mathlib.Core.List.{List}
+use native.Mathlib.Nat.{mul-comm, mul-le-mul, div-le-of-le-mul}
+use native.Mathlib.Omega.{arith}
+use lib.ListN.{length}
+use lib.Seq.{sets}
+use lib.Dec.{eqb, ltb}
+use borrow.Author.Tests.{ne-eqb, lt-ltb, le-ltb}
+use Rattle.record.specs.Lists.{partsOf}
+use Rattle.record.specs.Checks.{firstOf}
+use Rattle.record.proofs.Checks.{row-fails, row-passes, rows-end}
+use Rattle.record.proofs.Stores.{sets-over}
+use Rattle.command.specs.Task.{isForm, isList}
+use Rattle.command.proofs.Forms.{form-most, list-is}
+use Rattle.form.specs.Turn.{turnedList, anyStaysLong, turnRows, turning, turnedInto}
+use Rattle.form.specs.declared.Turned.{Turned}
+use Rattle.form.proofs.Lists.{length-turned}
+
+-- a list that is one has at most 64 records, so its turned length is small
+pub length-low : (from to : ℕ) (list : List ℕ) → isForm to ≡ true → isList from list ≡ true → length list / from * to ≤ 3072
+length-low from to list f e = mul-le-mul {n₂ = 64} {m₂ = 48} (div-le-of-le-mul from (omega (arith, list-is from list e .2, mul-comm 64 from))) (form-most to f)
+
+module _ (from to : ℕ) (list old : List ℕ) where
+  abbrev pub TurnedBy : Turned → List ℕ → Type 0
+  TurnedBy r new = (r ≡ turning from to list (length old)) × (new ≡ turnedInto from to list old)
+
+  refused : (n : ℕ) → 0 < n → n ≡ firstOf (turnRows from to list (length old)) → TurnedBy (record { number = n; length = 0 }) old
+  unfolding turning turnedInto
+  refused n h e = let z : eqb n 0 ≡ false = ne-eqb n 0 (λ z. omega arith) in rw (← e, z) (refl, refl)
+
+  accepted : 0 ≡ firstOf (turnRows from to list (length old)) → length (turnedList from to list) ≤ length old → (new : List ℕ) → new ≡ sets old 0 (turnedList from to list)
+      → TurnedBy (record { number = 0; length = length (turnedList from to list) }) new
+  unfolding turning turnedInto
+  accepted e h new f = rw (← e) (refl, f ∙ sets-over old (turnedList from to list) h)
+
+  pub turned-10 : not (isList from list) ≡ true → TurnedBy (record { number = 10; length = 0 }) old
+  unfolding turnRows
+  turned-10 e = refused 10 (omega arith) (row-fails _ e)
+
+  -- the list is one; its turned length, as the code has it
+  module _ (f : isForm from ≡ true) (t : isForm to ≡ true) (e : not (isList from list) ≡ false) where
+    abbrev size : ℕ
+    size = length list / from * to
+
+    pub turned-17 : length old < size → TurnedBy (record { number = 17; length = 0 }) old
+    unfolding turnRows
+    turned-17 h = refused 17 (omega arith) (row-passes 10 _ e (row-fails _ (lt-ltb (length old) (length (turnedList from to list)) (omega (arith, length-turned from to list f t)))))
+
+    module _ (h : size ≤ length old) where
+      fits : ltb (length old) (length (turnedList from to list)) ≡ false
+      fits = le-ltb (length old) (length (turnedList from to list)) (omega (arith, length-turned from to list f t))
+
+      pub turned-28 : (ltb to from && anyStaysLong (partsOf from list)) ≡ true → TurnedBy (record { number = 28; length = 0 }) old
+      unfolding turnRows
+      turned-28 s = refused 28 (omega arith) (row-passes 10 _ e (row-passes 17 _ fits (row-fails _ s)))
+
+      pub turned-0 : (ltb to from && anyStaysLong (partsOf from list)) ≡ false → (new : List ℕ) → new ≡ sets old 0 (turnedList from to list) → TurnedBy (record { number = 0; length = size }) new
+      unfolding turnRows
+      turned-0 s new p =
+          rw (← length-turned from to list f t)
+          (accepted (row-passes 10 _ e (row-passes 17 _ fits (row-passes 28 _ s rows-end))) (omega (arith, length-turned from to list f t)) new p)

@@ -1,0 +1,57 @@
+use borrow.Author.Needs.{needs}
+use Rattle.form_code.proofs.put_record.Statement.{statement}
+use Rattle.form_code.proofs.put_record.Tie as tie
+use Rattle.form_code.proofs.put_record.Reads as reads
+use Rattle.form_code.proofs.put_record.Lts as lts
+use Rattle.form_code.proofs.put_bytes.Reads as put-bytes-reads
+use Rattle.form_code.proofs.put_zeros.Reads as put-zeros-reads
+
+-- src/lib.rt:73:27
+sub-put-bytes : tie.Need-sub-put-bytes
+sub-put-bytes c = search needs
+
+-- src/lib.rt:73:27
+part-put-bytes-start : tie.Need-part-put-bytes-start
+part-put-bytes-start c = search needs
+
+-- src/lib.rt:73:27
+part-put-bytes-end : tie.Need-part-put-bytes-end
+part-put-bytes-end c = search needs
+
+-- src/lib.rt:73:5
+put-bytes-requires : tie.Need-put-bytes-requires
+put-bytes-requires c κs = ?
+
+-- src/lib.rt:74:23
+add-put-zeros : tie.Need-add-put-zeros
+add-put-zeros c = search needs
+
+-- src/lib.rt:74:32
+sub-put-zeros : tie.Need-sub-put-zeros
+sub-put-zeros c = ?
+
+-- src/lib.rt:74:5
+put-zeros-requires : tie.Need-put-zeros-requires
+put-zeros-requires c κs = ?
+
+-- src/lib.rt:67:1
+same-length : tie.Need-same-length
+same-length c = search needs
+
+-- src/lib.rt:67:1
+returns : tie.Need-returns
+returns c = ?
+
+pub put-record-spec : {M : Type 1} → statement M
+put-record-spec =
+    tie.close
+    (tie.spec
+    sub-put-bytes
+    part-put-bytes-start
+    part-put-bytes-end
+    put-bytes-requires
+    add-put-zeros
+    sub-put-zeros
+    put-zeros-requires
+    same-length
+    returns)
