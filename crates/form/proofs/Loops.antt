@@ -95,6 +95,14 @@ module _ (bytes : List ℕ) (target₀ : List ℕ) (at : ℕ) where
     storing-end h = sym (g .stored ∙ (rw (drop-of-length-le bytes h)))
 
 -- ---- storing records
+-- one: its 32 bytes, and zeros behind them
+pub record-stored : (l b : List ℕ) (at form : ℕ) → shortForm ≤ length b → {l1 l2 : List ℕ} → l1 ≡ sets l at (take shortForm b) → l2 ≡ sets l1 (at + shortForm) (replicate (form - shortForm) 0) → l2 ≡ sets l at (recordIn form b)
+record-stored l b at form h e f = f ∙ (rw (e, sets-append, length-take-le shortForm b h))
+
+-- part i of a list, as the code lends it on, has the bytes of a short record
+pub part-least : (size : ℕ) (list : List ℕ) (i : ℕ) → isForm size ≡ true → i < length list / size → shortForm ≤ length (take (i * size + size - i * size) (drop (i * size) list))
+part-least size list i f h = rw add-sub-cancel-left (omega (arith, form-least size f, length-part size list i h))
+
 module _ (from to : ℕ) (list : List ℕ) where
   -- the bytes of the turned records from i on
   abbrev leftAt : ℕ → ℕ → List ℕ
