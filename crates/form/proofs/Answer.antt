@@ -1,7 +1,7 @@
 -- The answer of turning a list, and the target that goes with it, by the way that the checks fall.
-use Prim.Native.Nat.{ℕ, _+_, _*_, _/_, _<_, _≤_}
-use mathlib.Core.Path.{_≡_, refl, sym, ap, _∙_}
-use mathlib.Core.Bool.{true, false, not, _&&_}
+use Prim.Native.Nat.{ℕ, _*_, _/_, _<_, _≤_}
+use mathlib.Core.Path.{_≡_, refl, ap, _∙_}
+use mathlib.Core.Bool.{Bool, true, false, not, _&&_}
 use mathlib.Core.List.{List}
 use native.Mathlib.Nat.{mul-comm, mul-le-mul, div-le-of-le-mul}
 use native.Mathlib.Omega.{arith}
@@ -11,6 +11,7 @@ use lib.Dec.{eqb, ltb}
 use borrow.Author.Tests.{ne-eqb, lt-ltb, le-ltb}
 use Rattle.record.specs.Lists.{partsOf}
 use Rattle.record.specs.Checks.{firstOf}
+use Rattle.record.proofs.Choice.{tested}
 use Rattle.record.proofs.Checks.{row-fails, row-passes, rows-end}
 use Rattle.record.proofs.Stores.{sets-over}
 use Rattle.command.specs.Task.{isForm, isList}
@@ -49,16 +50,19 @@ module _ (from to : ℕ) (list old : List ℕ) where
     unfolding turnRows
     turned-17 h = refused 17 (omega arith) (row-passes 10 _ e (row-fails _ (lt-ltb (length old) (length (turnedList from to list)) (omega (arith, length-turned from to list f t)))))
 
-    module _ (h : size ≤ length old) where
+    module _ (h : size ≤ length old) (any : Bool) (a : any ≡ anyStaysLong (partsOf from list)) where
       fits : ltb (length old) (length (turnedList from to list)) ≡ false
       fits = le-ltb (length old) (length (turnedList from to list)) (omega (arith, length-turned from to list f t))
 
-      pub turned-28 : (ltb to from && anyStaysLong (partsOf from list)) ≡ true → TurnedBy (record { number = 28; length = 0 }) old
-      unfolding turnRows
-      turned-28 s = refused 28 (omega arith) (row-passes 10 _ e (row-passes 17 _ fits (row-fails _ s)))
+      by-28 : {v : Bool} → (ltb to from && any) ≡ v → (ltb to from && anyStaysLong (partsOf from list)) ≡ v
+      by-28 s = tested (ap (λ (b : Bool). ltb to from && b) a) s
 
-      pub turned-0 : (ltb to from && anyStaysLong (partsOf from list)) ≡ false → (new : List ℕ) → new ≡ sets old 0 (turnedList from to list) → TurnedBy (record { number = 0; length = size }) new
+      pub turned-28 : (ltb to from && any) ≡ true → TurnedBy (record { number = 28; length = 0 }) old
+      unfolding turnRows
+      turned-28 s = refused 28 (omega arith) (row-passes 10 _ e (row-passes 17 _ fits (row-fails _ (by-28 s))))
+
+      pub turned-0 : (ltb to from && any) ≡ false → (new : List ℕ) → new ≡ sets old 0 (turnedList from to list) → TurnedBy (record { number = 0; length = size }) new
       unfolding turnRows
       turned-0 s new p =
           rw (← length-turned from to list f t)
-          (accepted (row-passes 10 _ e (row-passes 17 _ fits (row-passes 28 _ s rows-end))) (omega (arith, length-turned from to list f t)) new p)
+          (accepted (row-passes 10 _ e (row-passes 17 _ fits (row-passes 28 _ (by-28 s) rows-end))) (omega (arith, length-turned from to list f t)) new p)

@@ -52,7 +52,7 @@ module _ (size : ℕ) (list : List ℕ) where
       let e : size ≡ 32 + (a + size - (a + 32)) = omega arith in
       let first : byteAt (take size (drop a list)) 0 ≡ byteAt list a = getD-take size (drop a list) 0 0 (omega arith) ∙ getD-drop a list 0 0 ∙ ap (λ (k : ℕ). byteAt list k) (add-zero a) in
       let rest : drop 32 (take size (drop a list)) ≡ take (a + size - (a + 32)) (drop (a + 32) list) =
-          ap (λ (k : ℕ). drop 32 (take k (drop a list))) e ∙ drop-first 32 (a + size - (a + 32)) (drop a list) ∙ ap (λ (l : List ℕ). take (a + size - (a + 32)) l) (drop-drop 32 a list) in
+      ap (λ (k : ℕ). drop 32 (take k (drop a list))) e ∙ drop-first 32 (a + size - (a + 32)) (drop a list) ∙ ap (λ (l : List ℕ). take (a + size - (a + 32)) l) (drop-drop 32 a list) in
       λ t. ltb 2 (first t) || not (allZero (rest t))
 
   module _ (count : ℕ) (any : Bool) (i : ℕ) (g : Asking count any i) where

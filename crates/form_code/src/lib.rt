@@ -101,14 +101,23 @@ fn turn(from: u32, to: u32, list: &[u8], target: &mut [u8]) -> Turned
     ensures { λ r. ⌜ now (target .exit) ≡ turnedInto from to (now (list .entry)) (now (target .entry)) ⌝ }
 {
     if !is_list(from, list) {
-        return Turned { number: 10, length: 0 };
+        return Turned {
+            number: 10,
+            length: 0,
+        };
     }
     let length = list.len() as u64 / from as u64 * to as u64;
     if (target.len() as u64) < length {
-        return Turned { number: 17, length: 0 };
+        return Turned {
+            number: 17,
+            length: 0,
+        };
     }
     if (to < from) & any_stays_long(from, list) {
-        return Turned { number: 28, length: 0 };
+        return Turned {
+            number: 28,
+            length: 0,
+        };
     }
     put_list(from, to, list, target);
     Turned { number: 0, length }

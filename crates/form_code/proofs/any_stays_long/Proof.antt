@@ -1,5 +1,4 @@
 use native.Mathlib.Nat.{div-le-self}
-use mathlib.Core.Path.{_≡_, refl}
 use lib.ListN.{length}
 use Rattle.command.proofs.Forms.{form-least, part-ends}
 use Prim.Native.Nat.{_-_, _+_, _*_, _≤_}
@@ -8,9 +7,6 @@ use borrow.Author.Needs.{needs}
 use Rattle.form.proofs.Loops.{Asking, asking-start, asking-turn, asking-end}
 use Rattle.form_code.proofs.any_stays_long.Statement.{statement}
 use Rattle.form_code.proofs.any_stays_long.Tie as tie
-use Rattle.form_code.proofs.any_stays_long.Reads as reads
-use Rattle.form_code.proofs.any_stays_long.Lts as lts
-use Rattle.record_code.proofs.all_zero.Reads as all-zero-reads
 
 abbrev Inv-loop : tie.InvT-loop
 Inv-loop form list size count any₀ i₀ any i = Asking size list count any i
@@ -28,55 +24,42 @@ least c = form-least _ (c .before .before .before .pre)
 div-count : tie.Need-div-count Inv-loop μ-loop
 div-count c = omega (arith, form-least (c .before .args .form) (c .before .pre))
 
--- src/lib.rt:31:5
 loop-holds : tie.Need-loop-holds Inv-loop μ-loop
 loop-holds c = asking-start _ _
 
--- src/lib.rt:32:18
 mul-at : tie.Need-mul-at Inv-loop μ-loop
 mul-at c = omega (arith, ends c, c .before .before .before .good)
 
--- src/lib.rt:33:20
 add-past : tie.Need-add-past Inv-loop μ-loop
 add-past c = omega (arith, ends c, least c, c .before .before .before .good)
 
--- src/lib.rt:34:19
 add-end : tie.Need-add-end Inv-loop μ-loop
 add-end c = omega (arith, ends c, c .before .before .before .good)
 
--- src/lib.rt:35:42
 sub-all-zero : tie.Need-sub-all-zero Inv-loop μ-loop
 sub-all-zero c = omega (arith, ends c, least c, c .before .before .before .good)
 
--- src/lib.rt:35:42
 part-all-zero-start : tie.Need-part-all-zero-start Inv-loop μ-loop
 part-all-zero-start c = omega (arith, least c)
 
--- src/lib.rt:35:42
 part-all-zero-end : tie.Need-part-all-zero-end Inv-loop μ-loop
 part-all-zero-end c = omega (arith, ends c)
 
--- src/lib.rt:35:13
 all-zero-requires : tie.Need-all-zero-requires Inv-loop μ-loop
 all-zero-requires c κs = search needs
 
--- src/lib.rt:36:27
 shared-slice-read-any : tie.Need-shared-slice-read-any Inv-loop μ-loop
 shared-slice-read-any c = let p = c .before .before .before in omega (arith, ends p, least p)
 
--- src/lib.rt:37:9
 add-i : tie.Need-add-i Inv-loop μ-loop
 add-i c = let p = c .before .before .before in omega (arith, p .loop-test .taken, p .before .before .before .good, div-le-self (length (p .before .before .before .args .list .now)) (p .before .before .before .args .form))
 
--- src/lib.rt:31:5
 loop-less : tie.Need-loop-less Inv-loop μ-loop
 loop-less c = search needs
 
--- src/lib.rt:31:5
 loop-again : tie.Need-loop-again Inv-loop μ-loop
 loop-again c = let p = c .before .before .before in let l = p .before .loop in asking-turn _ _ _ (l .any) (l .i) (l .inv) (p .before .before .before .pre) (p .loop-test .taken) _ (c .before .all-zero .ensures)
 
--- src/lib.rt:23:1
 returns : tie.Need-returns Inv-loop μ-loop
 returns c = let l = c .before .loop in asking-end _ _ _ (l .any) (l .i) (l .inv) (c .loop-test .left)
 

@@ -6,19 +6,13 @@ use lib.Dec.{eqb, leb}
 use borrow.Author.Needs.{needs}
 use Rattle.form_code.proofs.is_list.Statement.{statement}
 use Rattle.form_code.proofs.is_list.Tie as tie
-use Rattle.form_code.proofs.is_list.Reads as reads
-use Rattle.form_code.proofs.is_list.Lts as lts
-use Rattle.record_code.proofs.remainder.Reads as remainder-reads
 
--- src/lib.rt:18:9
 remainder-requires : tie.Need-remainder-requires
 remainder-requires c κs = search needs
 
--- src/lib.rt:19:58
 mul-result : tie.Need-mul-result
 mul-result c = search needs
 
--- src/lib.rt:13:1
 returns : tie.Need-returns
 returns c = let a = c .before .before .args in ap (λ (k : ℕ). (eqb (a .form) 32 || eqb (a .form) 48) && (eqb k 0 && leb (length (a .list .now)) (64 * a .form))) (c .remainder .ensures)
 

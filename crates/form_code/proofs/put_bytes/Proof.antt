@@ -1,13 +1,10 @@
 use mathlib.Core.Path.{refl}
 use Prim.Native.Nat.{_-_}
-use native.Mathlib.Omega.{arith}
 use borrow.Author.Needs.{needs}
 use lib.ListN.{length}
 use Rattle.form.proofs.Loops.{Storing, storing-start, storing-turn, storing-end}
 use Rattle.form_code.proofs.put_bytes.Statement.{statement}
 use Rattle.form_code.proofs.put_bytes.Tie as tie
-use Rattle.form_code.proofs.put_bytes.Reads as reads
-use Rattle.form_code.proofs.put_bytes.Lts as lts
 
 abbrev Inv-loop : tie.InvT-loop
 Inv-loop target₀ at bytes i₀ target i = Storing bytes target₀ at target i
@@ -15,39 +12,30 @@ Inv-loop target₀ at bytes i₀ target i = Storing bytes target₀ at target i
 abbrev μ-loop : tie.MeasureT-loop
 μ-loop target₀ at bytes i₀ target i = length bytes - i
 
--- src/lib.rt:48:5
 loop-holds : tie.Need-loop-holds Inv-loop μ-loop
 loop-holds c = storing-start _ _ _
 
--- src/lib.rt:49:26
 shared-slice-read-target : tie.Need-shared-slice-read-target Inv-loop μ-loop
 shared-slice-read-target c = search needs
 
--- src/lib.rt:49:16
 add-target : tie.Need-add-target Inv-loop μ-loop
 add-target c = search needs
 
--- src/lib.rt:49:9
 slice-write-target : tie.Need-slice-write-target Inv-loop μ-loop
 slice-write-target c = search needs
 
--- src/lib.rt:50:9
 add-i : tie.Need-add-i Inv-loop μ-loop
 add-i c = search needs
 
--- src/lib.rt:48:5
 loop-less : tie.Need-loop-less Inv-loop μ-loop
 loop-less c = search needs
 
--- src/lib.rt:48:5
 loop-again : tie.Need-loop-again Inv-loop μ-loop
 loop-again c = let l = c .before .before .loop in storing-turn _ _ _ (l .target) (l .i) (l .inv) (c .before .loop-test .taken) _ refl
 
--- src/lib.rt:43:1
 same-length : tie.Need-same-length Inv-loop μ-loop
 same-length c = search needs
 
--- src/lib.rt:43:1
 returns : tie.Need-returns Inv-loop μ-loop
 returns c = let l = c .before .loop in storing-end _ _ _ (l .target) (l .i) (l .inv) (c .loop-test .left)
 

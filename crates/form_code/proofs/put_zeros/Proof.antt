@@ -2,12 +2,10 @@ use mathlib.Core.Path.{sym}
 use Prim.Native.Nat.{ℕ, _-_}
 use native.Mathlib.Omega.{arith}
 use borrow.Author.Needs.{needs}
-use lib.ListN.{length, replicate, length-replicate, getD-replicate}
+use lib.ListN.{replicate, length-replicate, getD-replicate}
 use Rattle.form.proofs.Loops.{Storing, storing-start, storing-turn, storing-end}
 use Rattle.form_code.proofs.put_zeros.Statement.{statement}
 use Rattle.form_code.proofs.put_zeros.Tie as tie
-use Rattle.form_code.proofs.put_zeros.Reads as reads
-use Rattle.form_code.proofs.put_zeros.Lts as lts
 
 abbrev Inv-loop : tie.InvT-loop
 Inv-loop target₀ at n i₀ target i = Storing (replicate n 0) target₀ at target i
@@ -15,35 +13,27 @@ Inv-loop target₀ at n i₀ target i = Storing (replicate n 0) target₀ at tar
 abbrev μ-loop : tie.MeasureT-loop
 μ-loop target₀ at n i₀ target i = n - i
 
--- src/lib.rt:60:5
 loop-holds : tie.Need-loop-holds Inv-loop μ-loop
 loop-holds c = storing-start _ _ _
 
--- src/lib.rt:61:16
 add-target : tie.Need-add-target Inv-loop μ-loop
 add-target c = search needs
 
--- src/lib.rt:61:9
 slice-write-target : tie.Need-slice-write-target Inv-loop μ-loop
 slice-write-target c = search needs
 
--- src/lib.rt:62:9
 add-i : tie.Need-add-i Inv-loop μ-loop
 add-i c = search needs
 
--- src/lib.rt:60:5
 loop-less : tie.Need-loop-less Inv-loop μ-loop
 loop-less c = search needs
 
--- src/lib.rt:60:5
 loop-again : tie.Need-loop-again Inv-loop μ-loop
 loop-again c = let l = c .before .loop in storing-turn _ _ _ (l .target) (l .i) (l .inv) (omega (arith, c .loop-test .taken, length-replicate {A = ℕ} (c .before .before .args .n) 0)) 0 (sym (getD-replicate _ _ 0 0 (c .loop-test .taken)))
 
--- src/lib.rt:55:1
 same-length : tie.Need-same-length Inv-loop μ-loop
 same-length c = search needs
 
--- src/lib.rt:55:1
 returns : tie.Need-returns Inv-loop μ-loop
 returns c = let l = c .before .loop in storing-end _ _ _ (l .target) (l .i) (l .inv) (omega (arith, c .loop-test .left, length-replicate {A = ℕ} (c .before .before .args .n) 0))
 
