@@ -5,19 +5,9 @@ ghost use Prim.Native.Nat.{_+_, _*_, _/_, _≤_};
 ghost use lib.ListN.{length, replicate};
 ghost use lib.Seq.{sets};
 ghost use Rattle.record.specs.Lists.{partsOf};
-ghost use Rattle.command.specs.Task.{shortForm, longForm, isForm, isList};
+ghost use Rattle.command.specs.Task.{shortForm, longForm, isForm};
 ghost use Rattle.form.specs.Turn.{recordIn, turnedList, anyStaysLong, turning, turnedInto};
 use form::Turned;
-
-// Stand-in.
-fn is_list(form: u32, list: &[u8]) -> bool
-    ensures { λ r. ⌜ r ≡ isList form (now (list .entry)) ⌝ }
-{
-    let n = list.len() as u64;
-    let size = form as u64;
-    let over = record_code::remainder(n, size);
-    ((form == 32) | (form == 48)) & ((over == 0) & (n <= 64 * size))
-}
 
 // Whether a record of the list, in a form, has no short one: by its operation, or by a byte past 31.
 fn any_stays_long(form: u32, list: &[u8]) -> bool
@@ -100,7 +90,7 @@ fn turn(from: u32, to: u32, list: &[u8], target: &mut [u8]) -> Turned
     ensures { λ r. ⌜ r ≡ turning from to (now (list .entry)) (length (now (target .entry))) ⌝ }
     ensures { λ r. ⌜ now (target .exit) ≡ turnedInto from to (now (list .entry)) (now (target .entry)) ⌝ }
 {
-    if !is_list(from, list) {
+    if !command_code::is_list(from, list) {
         return Turned {
             number: 10,
             length: 0,
