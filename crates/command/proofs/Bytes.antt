@@ -52,7 +52,7 @@ first-are zero b h = refl
 first-are (suc n) [] h = absurd (omega arith)
 first-are (suc n) (x ∷ b) h = ap (λ (l : List ℕ). x ∷ l) (first-are n b (omega arith))
 
-zeros-are : (b : List ℕ) → allZero b ≡ true → b ≡ replicate (length b) 0
+pub zeros-are : (b : List ℕ) → allZero b ≡ true → b ≡ replicate (length b) 0
 unfolding allZero
 zeros-are [] e = refl
 zeros-are (x ∷ b) e =
