@@ -1,6 +1,6 @@
 -- The answer of turning a list, and the target that goes with it, by the way that the checks fall.
 use Prim.Native.Nat.{ℕ, _*_, _/_, _<_, _≤_}
-use mathlib.Core.Path.{_≡_, refl, ap, _∙_}
+use mathlib.Core.Path.{_≡_, refl, sym, ap, _∙_}
 use mathlib.Core.Bool.{Bool, true, false, not, _&&_}
 use mathlib.Core.List.{List}
 use native.Mathlib.Nat.{mul-comm, mul-le-mul, div-le-of-le-mul}
@@ -8,17 +8,18 @@ use native.Mathlib.Omega.{arith}
 use lib.ListN.{length}
 use lib.Seq.{sets}
 use lib.Dec.{eqb, ltb}
-use borrow.Author.Tests.{ne-eqb, lt-ltb, le-ltb}
+use borrow.Author.Tests.{not-false, ne-eqb, lt-ltb, le-ltb}
 use Rattle.record.specs.Lists.{partsOf}
 use Rattle.record.specs.Checks.{firstOf}
 use Rattle.record.proofs.Choice.{tested}
-use Rattle.record.proofs.Checks.{row-fails, row-passes, rows-end}
+use Rattle.record.proofs.Checks.{row-fails, row-passes}
 use Rattle.record.proofs.Stores.{sets-over}
 use Rattle.command.specs.Task.{isForm, isList}
 use Rattle.command.proofs.Forms.{form-most, list-is}
 use Rattle.form.specs.Turn.{turnedList, anyStaysLong, turnRows, turning, turnedInto}
 use Rattle.form.specs.declared.Turned.{Turned}
 use Rattle.form.proofs.Lists.{length-turned}
+use Rattle.form.proofs.Accepted.{Accepted, accepted-by, into-is}
 
 -- a list that is one has at most 64 records, so its turned length is small
 pub length-low : (from to : ℕ) (list : List ℕ) → isForm to ≡ true → isList from list ≡ true → length list / from * to ≤ 3072
@@ -31,11 +32,6 @@ module _ (from to : ℕ) (list old : List ℕ) where
   refused : (n : ℕ) → 0 < n → n ≡ firstOf (turnRows from to list (length old)) → TurnedBy (record { number = n; length = 0 }) old
   unfolding turning turnedInto
   refused n h e = let z : eqb n 0 ≡ false = ne-eqb n 0 (λ z. omega arith) in rw (← e, z) (refl, refl)
-
-  accepted : 0 ≡ firstOf (turnRows from to list (length old)) → length (turnedList from to list) ≤ length old → (new : List ℕ) → new ≡ sets old 0 (turnedList from to list)
-      → TurnedBy (record { number = 0; length = length (turnedList from to list) }) new
-  unfolding turning turnedInto
-  accepted e h new f = rw (← e) (refl, f ∙ sets-over old (turnedList from to list) h)
 
   pub turned-10 : not (isList from list) ≡ true → TurnedBy (record { number = 10; length = 0 }) old
   unfolding turnRows
@@ -62,7 +58,8 @@ module _ (from to : ℕ) (list old : List ℕ) where
       turned-28 s = refused 28 (omega arith) (row-passes 10 _ e (row-passes 17 _ fits (row-fails _ (by-28 s))))
 
       pub turned-0 : (ltb to from && any) ≡ false → (new : List ℕ) → new ≡ sets old 0 (turnedList from to list) → TurnedBy (record { number = 0; length = size }) new
-      unfolding turnRows
       turned-0 s new p =
-          rw (← length-turned from to list f t)
-          (accepted (row-passes 10 _ e (row-passes 17 _ fits (row-passes 28 _ (by-28 s) rows-end))) (omega (arith, length-turned from to list f t)) new p)
+          let n : length (turnedList from to list) ≡ size = length-turned from to list f t in
+          let fit : length (turnedList from to list) ≤ length old = omega (arith, n) in
+          let a : Accepted from to list (length old) = record { listed = not-false (isList from list) e; fits = fit; short = by-28 s } in
+          (sym (accepted-by from to list (length old) a ∙ ap (λ (k : ℕ). record { number = 0; length = k }) n), p ∙ sets-over old (turnedList from to list) fit ∙ sym (into-is from to list old a))
