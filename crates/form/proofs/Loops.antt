@@ -56,7 +56,7 @@ module _ (size : ℕ) (list : List ℕ) where
       λ t. ltb 2 (first t) || not (allZero (rest t))
 
   module _ (count : ℕ) (any : Bool) (i : ℕ) (g : Asking count any i) where
-    pub asking-turn : isForm size ≡ true → i < count → (zeros : Bool) → zeros ≡ allZero (take (i * size + size - (i * size + 32)) (drop (i * size + 32) list))
+    pub asking-turn : shortForm ≤ size → i < count → (zeros : Bool) → zeros ≡ allZero (take (i * size + size - (i * size + 32)) (drop (i * size + 32) list))
         → Asking count (any || (ltb 2 (byteAt list (i * size)) || not zeros)) (i + 1)
     asking-turn f h zeros e =
         record {
@@ -65,7 +65,7 @@ module _ (size : ℕ) (list : List ℕ) where
           left =
               g .left ∙ ap (λ (bs : List (List ℕ)). any || anyStaysLong bs) (parts-step size list i count h)
               ∙ any-step any (take size (drop (i * size) list)) (partsFrom size list (i + 1) (count - (i + 1)))
-              ∙ (rw (stays-at i (form-least size f), ← e));
+              ∙ (rw (stays-at i f, ← e));
         }
 
     pub asking-end : count ≤ i → any ≡ anyStaysLong (partsOf size list)

@@ -1,64 +1,52 @@
-use native.Mathlib.Nat.{div-le-self}
-use lib.ListN.{length}
-use Rattle.command.proofs.Forms.{form-least, part-ends}
-use Prim.Native.Nat.{_-_, _+_, _*_, _≤_}
+use Prim.Native.Nat.{_-_}
 use native.Mathlib.Omega.{arith}
 use borrow.Author.Needs.{needs}
+use Rattle.command.specs.Task.{longForm}
 use Rattle.form.proofs.Loops.{Asking, asking-start, asking-turn, asking-end}
 use Rattle.form_code.proofs.any_stays_long.Statement.{statement}
 use Rattle.form_code.proofs.any_stays_long.Tie as tie
 
 abbrev Inv-loop : tie.InvT-loop
-Inv-loop form list size count any₀ i₀ any i = Asking size list count any i
+Inv-loop list count any₀ i₀ any i = Asking longForm list count any i
 
 abbrev μ-loop : tie.MeasureT-loop
-μ-loop form list size count any₀ i₀ any i = count - i
-
--- record i is one of the list's
-ends : (c : tie.In-loop Inv-loop μ-loop) → c .before .loop .i * c .before .before .before .args .form + c .before .before .before .args .form ≤ length (c .before .before .before .args .list .now)
-ends c = part-ends _ _ _ (c .loop-test .taken)
-
-least : (c : tie.In-loop Inv-loop μ-loop) → 32 ≤ c .before .before .before .args .form
-least c = form-least _ (c .before .before .before .pre)
-
-div-count : tie.Need-div-count Inv-loop μ-loop
-div-count c = omega (arith, form-least (c .before .args .form) (c .before .pre))
+μ-loop list count any₀ i₀ any i = count - i
 
 loop-holds : tie.Need-loop-holds Inv-loop μ-loop
 loop-holds c = asking-start _ _
 
 mul-at : tie.Need-mul-at Inv-loop μ-loop
-mul-at c = omega (arith, ends c, c .before .before .before .good)
+mul-at c = search needs
 
 add-past : tie.Need-add-past Inv-loop μ-loop
-add-past c = omega (arith, ends c, least c, c .before .before .before .good)
+add-past c = search needs
 
 add-end : tie.Need-add-end Inv-loop μ-loop
-add-end c = omega (arith, ends c, c .before .before .before .good)
+add-end c = search needs
 
 sub-all-zero : tie.Need-sub-all-zero Inv-loop μ-loop
-sub-all-zero c = omega (arith, ends c, least c, c .before .before .before .good)
+sub-all-zero c = search needs
 
 part-all-zero-start : tie.Need-part-all-zero-start Inv-loop μ-loop
-part-all-zero-start c = omega (arith, least c)
+part-all-zero-start c = search needs
 
 part-all-zero-end : tie.Need-part-all-zero-end Inv-loop μ-loop
-part-all-zero-end c = omega (arith, ends c)
+part-all-zero-end c = search needs
 
 all-zero-requires : tie.Need-all-zero-requires Inv-loop μ-loop
 all-zero-requires c κs = search needs
 
 shared-slice-read-any : tie.Need-shared-slice-read-any Inv-loop μ-loop
-shared-slice-read-any c = let p = c .before .before .before in omega (arith, ends p, least p)
+shared-slice-read-any c = search needs
 
 add-i : tie.Need-add-i Inv-loop μ-loop
-add-i c = let p = c .before .before .before in omega (arith, p .loop-test .taken, p .before .before .before .good, div-le-self (length (p .before .before .before .args .list .now)) (p .before .before .before .args .form))
+add-i c = search needs
 
 loop-less : tie.Need-loop-less Inv-loop μ-loop
 loop-less c = search needs
 
 loop-again : tie.Need-loop-again Inv-loop μ-loop
-loop-again c = let p = c .before .before .before in let l = p .before .loop in asking-turn _ _ _ (l .any) (l .i) (l .inv) (p .before .before .before .pre) (p .loop-test .taken) _ (c .before .all-zero .ensures)
+loop-again c = let l = c .before .before .before .before .loop in asking-turn _ _ _ (l .any) (l .i) (l .inv) (omega arith) (c .before .before .before .loop-test .taken) _ (c .before .all-zero .ensures)
 
 returns : tie.Need-returns Inv-loop μ-loop
 returns c = let l = c .before .loop in asking-end _ _ _ (l .any) (l .i) (l .inv) (c .loop-test .left)
@@ -69,7 +57,6 @@ any-stays-long-spec =
     (tie.spec
     Inv-loop
     μ-loop
-    div-count
     loop-holds
     mul-at
     add-past
