@@ -43,7 +43,7 @@ part-put-record-end : tie.Need-part-put-record-end Inv-loop μ-loop
 part-put-record-end c = omega (arith, ends c)
 
 mul-put-record : tie.Need-mul-put-record Inv-loop μ-loop
-mul-put-record c = let p = c .before .before in omega (arith, room p, p .before .loop .inv .same, p .before .before .before .before .good)
+mul-put-record c = let p = c .before .before in omega (arith, ends p, room p, p .before .loop .inv .same, p .before .before .before .before .good)
 
 put-record-requires : tie.Need-put-record-requires Inv-loop μ-loop
 put-record-requires c κs = let p = c .before .before in (p .before .before .before .before .pre .1 .0, (part-least _ _ _ (p .before .before .before .before .pre .0) (p .loop-test .taken), room p))
