@@ -2,7 +2,7 @@
 use Prim.Native.Nat.{ℕ, zero, suc, _+_, _-_, _*_, _/_, _<_, _≤_}
 use mathlib.Core.Path.{_≡_, refl, sym, ap, _∙_}
 use mathlib.Core.Bool.{Bool, true, false, not, _||_}
-use mathlib.Core.List.{List, [], _∷_, _++_, map}
+use mathlib.Core.List.{List, [], _∷_, _++_, map, append-nil}
 use native.Mathlib.Nat.{add-zero, zero-add, suc-add, zero-mul, sub-zero, add-sub-cancel-left, mul-le-mul-right, suc-mul}
 use native.Mathlib.Numerals.{add-one}
 use native.Mathlib.Omega.{arith}
@@ -12,7 +12,7 @@ use lib.Dec.{ltb}
 use Rattle.record.specs.Bytes.{byteAt, allZero}
 use Rattle.record.specs.Lists.{partsFrom, partsOf}
 use Rattle.record.proofs.Lists.{parts-step, parts-end}
-use Rattle.record.proofs.Stores.{sets-append}
+use Rattle.record.proofs.Stores.{sets-append, sets-over}
 use Rattle.command.specs.Task.{shortForm, isForm}
 use Rattle.command.proofs.Forms.{form-least, length-part}
 use Rattle.form.specs.Turn.{recordIn, listOf, turnedList, staysLong, anyStaysLong}
@@ -95,6 +95,10 @@ module _ (bytes : List ℕ) (target₀ : List ℕ) (at : ℕ) where
     storing-end h = sym (g .stored ∙ (rw (drop-of-length-le bytes h)))
 
 -- ---- storing records
+-- bytes stored over as many
+pub all-stored : (l b : List ℕ) → length b ≡ length l → sets l 0 b ≡ b
+all-stored l b h = sets-over l b (omega (arith, h)) ∙ ap (λ (x : List ℕ). b ++ x) (drop-of-length-le l {i = length b} (omega (arith, h))) ∙ append-nil b
+
 -- one: its 32 bytes, and zeros behind them
 pub record-stored : (l b : List ℕ) (at form : ℕ) → shortForm ≤ length b → {l1 l2 : List ℕ} → l1 ≡ sets l at (take shortForm b) → l2 ≡ sets l1 (at + shortForm) (replicate (form - shortForm) 0) → l2 ≡ sets l at (recordIn form b)
 record-stored l b at form h e f = f ∙ (rw (e, sets-append, length-take-le shortForm b h))

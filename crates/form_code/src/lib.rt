@@ -51,14 +51,16 @@ fn put_zeros(target: &mut [u8], at: usize, n: usize)
     }
 }
 
-// Stores a record in a form from `at` on.
+// Stores a record in a form from `at` on; its bytes are read before any is stored, so that 16 of them move at once.
 fn put_record(b: &[u8], form: u32, target: &mut [u8], at: usize)
     requires { ⌜ isForm form ≡ true ⌝ }
     requires { ⌜ 32 ≤ length (now b) ⌝ }
     requires { ⌜ at + form ≤ length (now target) ⌝ }
     ensures { λ _. ⌜ now (target .exit) ≡ sets (now (target .entry)) at (recordIn form (now (b .entry))) ⌝ }
 {
-    put_bytes(target, at, &b[0..32]);
+    let mut first = [0u8; 32];
+    put_bytes(&mut first, 0, &b[0..32]);
+    put_bytes(target, at, &first);
     put_zeros(target, at + 32, form as usize - 32);
 }
 
