@@ -5,4 +5,6 @@ pub mod Accepted
 pub mod Back
 pub mod Commands
 pub mod Same
+pub mod Loops
+pub mod Answer
 pub mod Cases
