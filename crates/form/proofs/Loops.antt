@@ -16,7 +16,7 @@ use Rattle.record.proofs.Stores.{sets-append, sets-over}
 use Rattle.command.specs.Task.{shortForm, isForm}
 use Rattle.command.proofs.Forms.{form-least, length-part}
 use Rattle.form.specs.Turn.{recordIn, listOf, turnedList, staysLong, anyStaysLong}
-use Rattle.form.proofs.Lists.{length-record}
+use Rattle.form.proofs.Lists.{length-in-form}
 
 -- ---- which records stay long
 -- the bytes from m on of the first m + n
@@ -140,7 +140,7 @@ module _ (from to : ℕ) (list : List ℕ) where
       putting-turn p q new e =
           let b = take from (drop (i * from) list) in
           let k : length b ≡ from = length-part from list i (omega (arith, g .count-is)) in
-          let n : length (recordIn to b) ≡ to = length-record to b (form-least to q) (omega (arith, form-least from p)) in
+          let n : length (recordIn to b) ≡ to = length-in-form to b (form-least to q) (omega (arith, form-least from p)) in
           let f : new ≡ sets target (i * to) (recordIn to b) = e ∙ (rw add-sub-cancel-left) in
           let m : i * to + to ≡ (i + 1) * to = omega (arith, suc-mul i to, add-one i) in
           record {
