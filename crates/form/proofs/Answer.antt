@@ -57,18 +57,18 @@ module _ (from to : ℕ) (list old : List ℕ) where
     turned-17 h = refused 17 (omega arith) (row-passes 10 _ e (row-fails _ (rw (length-turned from to list f t) h)))
 
     -- whether a record stays long, as the code asks
-    module _ (h : ltb (length old) size ≡ false) (any : Bool) (a : any ≡ anyStaysLong (partsOf longForm list)) where
+    module _ (h : ltb (length old) size ≡ false) (stays : Bool) (a : stays ≡ (ltb to from && anyStaysLong (partsOf longForm list))) where
       fits : ltb (length old) (length (turnedList from to list)) ≡ false
       fits = rw (length-turned from to list f t) h
 
-      by-28 : {v : Bool} → (ltb to from && any) ≡ v → (ltb to from && anyStaysLong (partsOf from list)) ≡ v
-      by-28 s = tested (ap (λ (b : Bool). ltb to from && b) a ∙ asked-long from to list f t (ltb to from) refl) s
+      by-28 : {v : Bool} → stays ≡ v → (ltb to from && anyStaysLong (partsOf from list)) ≡ v
+      by-28 s = tested (a ∙ asked-long from to list f t (ltb to from) refl) s
 
-      pub turned-28 : (ltb to from && any) ≡ true → {r : Turned} → r ≡ refusedBy 28 → TurnedBy r old
+      pub turned-28 : stays ≡ true → {r : Turned} → r ≡ refusedBy 28 → TurnedBy r old
       unfolding turnRows
       turned-28 s = refused 28 (omega arith) (row-passes 10 _ e (row-passes 17 _ fits (row-fails _ (by-28 s))))
 
-      pub turned-0 : (ltb to from && any) ≡ false → (new : List ℕ) → new ≡ sets old 0 (turnedList from to list) → TurnedBy (record { number = 0; length = size }) new
+      pub turned-0 : stays ≡ false → (new : List ℕ) → new ≡ sets old 0 (turnedList from to list) → TurnedBy (record { number = 0; length = size }) new
       turned-0 s new p =
           let n : length (turnedList from to list) ≡ size = length-turned from to list f t in
           let fit : length (turnedList from to list) ≤ length old = ltb-false (length old) (length (turnedList from to list)) fits in

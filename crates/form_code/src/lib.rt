@@ -1,9 +1,10 @@
 // Turning a command list into its other form.
 ghost use mathlib.Core.Path.{_≡_};
-ghost use mathlib.Core.Bool.{true};
+ghost use mathlib.Core.Bool.{true, _&&_};
 ghost use Prim.Native.Nat.{_+_, _*_, _/_, _≤_};
 ghost use lib.ListN.{length, replicate};
 ghost use lib.Seq.{sets};
+ghost use lib.Dec.{ltb};
 ghost use Rattle.record.specs.Lists.{partsOf};
 ghost use Rattle.command.specs.Task.{shortForm, longForm, isForm};
 ghost use Rattle.form.specs.Turn.{recordIn, turnedList, anyStaysLong, turning, turnedInto};
@@ -25,6 +26,16 @@ fn any_stays_long(list: &[u8]) -> bool
         i += 1;
     }
     any
+}
+
+// Whether a list that is turned into a shorter form has such a record.
+fn stays_long(from: u32, to: u32, list: &[u8]) -> bool
+    ensures { λ r. ⌜ r ≡ (ltb to from && anyStaysLong (partsOf longForm (now (list .entry)))) ⌝ }
+{
+    if to < from {
+        return any_stays_long(list);
+    }
+    false
 }
 
 // Stores bytes from `at` on.
@@ -102,7 +113,7 @@ fn turn(from: u32, to: u32, list: &[u8], target: &mut [u8]) -> Turned
     }
     let length = list.len() as u64 / from as u64 * to as u64;
     let short = (target.len() as u64) < length;
-    let stays = (to < from) & any_stays_long(list);
+    let stays = stays_long(from, to, list);
     if short {
         return refused(17);
     }

@@ -23,8 +23,8 @@ div-length c = omega (arith, form-least (c .before .before .before .before .args
 mul-length : tie.Need-mul-length
 mul-length c = let a = c .before .before .before .before .args in omega (arith, length-low (a .from) (a .to) (a .list .now) (c .before .before .before .before .pre .1) (sym (c .before .is-list .ensures) ∙ not-false _ (c .if1 .left)))
 
-any-stays-long-requires : tie.Need-any-stays-long-requires
-any-stays-long-requires c κs = search needs
+stays-long-requires : tie.Need-stays-long-requires
+stays-long-requires c κs = search needs
 
 refused-requires-2 : tie.Need-refused-requires-2
 refused-requires-2 c κs = search needs
@@ -36,7 +36,7 @@ refused-requires-3 : tie.Need-refused-requires-3
 refused-requires-3 c κs = search needs
 
 returns-3 : tie.Need-returns-3
-returns-3 c = let p = c .before .before .before .before .before .before .before .before .pre in turned-28 _ _ _ _ (p .0) (p .1) (negated (c .before .before .before .before .before .is-list .ensures) (c .before .before .before .before .if1 .left)) (c .before .before .if2 .left) _ (c .before .before .before .any-stays-long .ensures) (c .before .if3 .taken) (c .refused3 .ensures)
+returns-3 c = let p = c .before .before .before .before .before .before .before .before .pre in turned-28 _ _ _ _ (p .0) (p .1) (negated (c .before .before .before .before .before .is-list .ensures) (c .before .before .before .before .if1 .left)) (c .before .before .if2 .left) _ (c .before .before .before .stays-long .ensures) (c .before .if3 .taken) (c .refused3 .ensures)
 
 put-list-requires : tie.Need-put-list-requires
 put-list-requires c κs = search needs
@@ -45,7 +45,7 @@ same-length : tie.Need-same-length
 same-length c = search needs
 
 returns-4 : tie.Need-returns-4
-returns-4 c = let p = c .before .before .before .before .before .before .before .before .before .before .before .pre in turned-0 _ _ _ _ (p .0) (p .1) (negated (c .before .before .before .before .before .before .before .before .is-list .ensures) (c .before .before .before .before .before .before .before .if1 .left)) (c .before .before .before .before .before .if2 .left) _ (c .before .before .before .before .before .before .any-stays-long .ensures) (c .before .before .before .before .if3 .left) _ (c .before .before .put-list .ensures)
+returns-4 c = let p = c .before .before .before .before .before .before .before .before .before .before .before .pre in turned-0 _ _ _ _ (p .0) (p .1) (negated (c .before .before .before .before .before .before .before .before .is-list .ensures) (c .before .before .before .before .before .before .before .if1 .left)) (c .before .before .before .before .before .if2 .left) _ (c .before .before .before .before .before .before .stays-long .ensures) (c .before .before .before .before .if3 .left) _ (c .before .before .put-list .ensures)
 
 pub turn-spec : {M : Type 1} → statement M
 turn-spec =
@@ -56,7 +56,7 @@ turn-spec =
     returns
     div-length
     mul-length
-    any-stays-long-requires
+    stays-long-requires
     refused-requires-2
     returns-2
     refused-requires-3
