@@ -4,7 +4,7 @@ use mathlib.Core.List.{List, [], _∷_}
 use lib.ListN.{replicate}
 use Rattle.screen.specs.Cases.{Case, case, lined, plain, windowLined}
 use Rattle.screen.specs.Values.{sixValues}
-use Rattle.command.specs.Task.{shortForm, Task, task, screenIn}
+use Rattle.command.specs.Task.{shortForm, longForm, Task, task, screenIn}
 use Rattle.older.specs.Bytes.{olderValues}
 use Rattle.older.specs.Compile.{olderRecords, registersIn, bytesIn, olderCompiling}
 
@@ -18,9 +18,12 @@ written screen =
     let c = olderCompiling (alone screen) 144 in
     c .number ∷ c .length ∷ c .depth ∷ c .rotation ∷ c .flag ∷ bytesIn (olderRecords (screenIn (alone screen)))
 
--- the refusal number of a screen, a list of so many bytes, so many host words and a stream buffer of so many bytes
+-- the refusal number of a screen, a list of so many bytes in a form, so many host words and a stream buffer of so many bytes
+abbrev numberIn : ℕ → List ℕ → ℕ → ℕ → ℕ → List ℕ
+numberIn form screen list words room = olderCompiling (task form screen (replicate list 0) (replicate words 0)) room .number ∷ []
+
 abbrev number : List ℕ → ℕ → ℕ → ℕ → List ℕ
-number screen list words room = olderCompiling (task shortForm screen (replicate list 0) (replicate words 0)) room .number ∷ []
+number = numberIn shortForm
 
 -- 001's panel, 320 by 240 at depth 4, its main image at 0; and with the sub-window's image at 9600h, at (x, y) and of that width and height
 abbrev panel : ℕ → List ℕ
@@ -99,6 +102,15 @@ olderCases =
     ∷ case (number (panel 0) 16 0 144) (10 ∷ [])
     ∷ case (number (panel 0) 0 1 144) (16 ∷ [])
     ∷ case (number (panel 0) 0 0 143) (17 ∷ [])
+    -- in the long form (02, g) one command, 64 and 65; a short command as a long list, and the other way round; a form that there is not, with no list and
+    -- before 11
+    ∷ case (numberIn longForm (panel 0) 48 0 144) (11 ∷ [])
+    ∷ case (numberIn longForm (panel 0) 3072 0 144) (11 ∷ [])
+    ∷ case (numberIn longForm (panel 0) 3120 0 144) (10 ∷ [])
+    ∷ case (numberIn longForm (panel 0) 32 0 144) (10 ∷ [])
+    ∷ case (number (panel 0) 48 0 144) (10 ∷ [])
+    ∷ case (numberIn 0 (panel 0) 0 0 144) (10 ∷ [])
+    ∷ case (numberIn 96 (panel 0) 96 0 144) (10 ∷ [])
     -- of two checks that fail at once the first in the order 1 to 9 and 26, 10, 11, 16, 17 is given
     ∷ case (number (plain 1 0 1024 640 4) 16 0 144) (6 ∷ [])
     ∷ case (number (lined 4 0 320 8 0 8192) 32 0 144) (26 ∷ [])

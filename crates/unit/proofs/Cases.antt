@@ -39,8 +39,8 @@ pub cases-hold : allHold cases ≡ true
 unfolding allZero firstOf recordBytes streamBytes recordAt recordsFrom recordsOf isDepth getPixel putPixel byteOf bitwise imageEnd startOf fieldsOf wellFormed panelOk viewWidth viewHeight wholeDwords mainImage windowImage lineOk imageOk windowOk windowWhole fieldRows screenRows screenOf windowX windowY originOf valuesOf allHold screenCases lineCases pixels chipLine chipLines chipBlit wordPixel hostPixel chipWord listed fits screenAfter blitAfter startable span within sourceFits mixBy fromBy jobOf blitOf writeOf started admitRows admit·refusal dueAfter dueOf chipAfter effect newChip run applied ending playing played commandOf commandBytes surfaceOf mustBeZero formed insideImage placed lineWords wordsTaken commandRows refusal addressOf destinationOf sourceOf isNegative lastColumn lastLine commandValue sourceValue destinationValue controlValue blitValues partsFrom partsOf recordsWith screenRecords dataRecords commandRecords drawRecords recordsFor listRows firstRefusal allWords wordRows taskRefusal roomRows refusalOf compiling streamOf sheetPixel sheet·hostPixel sheetSource sheetMix newPixel changes sheetByte sheetCommand sheetCommands sheetAfter drawCases olderBytes olderValues olderRecords lentRows olderRows olderCompiling exampleCases olderCases viewPixel inWindow windowPixel walk inWindowBy cornerP cornerQ placeOf displayOf pixelBit sheetBit shownAddress shownPlace pointCases cases
 cases-hold = refl
 
--- none is left out: ten of S1 to S9, thirty of line lengths, B1 on short and long lines, B2 and B3; 001's eight examples and their registers, and
--- twenty-one of the S1D13706's limits; twenty of where a point's pixel stands
-pub all-of-them : length cases ≡ 10 + 30 + 4 + 9 + 21 + 20
+-- none is left out: ten of S1 to S9, thirty of line lengths, B1 on short and long lines and in the long form, B2 and B3; 001's eight examples and their registers, and
+-- twenty-eight of the S1D13706's limits; twenty of where a point's pixel stands
+pub all-of-them : length cases ≡ 10 + 30 + 5 + 9 + 28 + 20
 unfolding screenCases lineCases drawCases exampleCases olderCases pointCases cases
 all-of-them = refl

@@ -1,8 +1,8 @@
--- 01's cases S1 to S9 and B1 to B3 (01, "Cases"), those of line lengths (02, c), of the S1D13706 (02, d) and of where a point's pixel
--- stands (02, e) as one list.
+-- 01's cases S1 to S9 and B1 to B3 (01, "Cases"), those of line lengths (02, c), of the S1D13706 (02, d), of where a point's pixel
+-- stands (02, e) and of the long form (02, g) as one list.
 use Prim.Native.Nat.{ℕ}
 use mathlib.Core.List.{List, [], _∷_, _++_}
-use lib.ListN.{take, drop}
+use lib.ListN.{take, drop, replicate}
 use Rattle.record.specs.Record.{recordsOf}
 use Rattle.record.specs.declared.Record.{Record}
 use Rattle.screen.specs.Cases.{Case, case, screenCases, lineCases, lined, plain, withWindow}
@@ -10,7 +10,7 @@ use Rattle.screen.specs.Screen.{memorySize, fieldsOf}
 use Rattle.screen.specs.Values.{valuesOf}
 use Rattle.reader.specs.Read.{displayOf, lookedAt, addressAt, bitAt}
 use Rattle.command.specs.Command.{commandBytes}
-use Rattle.command.specs.Task.{shortForm, task, commandsIn}
+use Rattle.command.specs.Task.{shortForm, longForm, task, commandsIn}
 use Rattle.compiler.specs.Compile.{compiling, streamOf}
 use Rattle.older.specs.Cases.{exampleCases, olderCases}
 use Rattle.chip.specs.Play.{newChip, run, applied}
@@ -26,14 +26,20 @@ abbrev pairs : List Record → List ℕ
 pairs [] = []
 pairs (r ∷ rs) = r .number ∷ r .value ∷ pairs rs
 
--- the records of a list without host words
+-- the records of a list in a form without host words
+abbrev recordsIn : ℕ → List ℕ → List ℕ → List Record
+recordsIn form screen list = recordsOf (streamOf (task form screen list []))
+
 abbrev records : List ℕ → List ℕ → List Record
-records screen list = recordsOf (streamOf (task shortForm screen list []))
+records = recordsIn shortForm
 
 -- what compiling gives: its number, the stream's length, and every record's number and value
+abbrev compiledIn : ℕ → List ℕ → List ℕ → List ℕ
+compiledIn form screen list =
+    let c = compiling memorySize (task form screen list []) 1024 in c .number ∷ c .length ∷ pairs (recordsIn form screen list)
+
 abbrev compiled : List ℕ → List ℕ → List ℕ
-compiled screen list =
-    let c = compiling memorySize (task shortForm screen list []) 1024 in c .number ∷ c .length ∷ pairs (records screen list)
+compiled = compiledIn shortForm
 
 -- a move of 7 by 1 pixels on B2's screen, from x = from to x = to with code Ch: compiling's number and playing's, for a memory of 262,144
 -- bytes; operation, source and destination; then the line of eight bytes, which alone is drawn on, afterwards: by playing and on the sheet
@@ -52,6 +58,12 @@ unfoldable pub drawCases : List Case
 drawCases =
     -- B1, whole: accepted, fifteen records, the screen's six and the fill's nine
     case (compiled (plain 8 0 320 240 0) (command 0 0 10 20 100 150 0 0 1))
+    (0 ∷ 120
+    ∷ 0x40 ∷ 0 ∷ 0x44 ∷ 0x50 ∷ 0x50 ∷ 0 ∷ 0x54 ∷ 0 ∷ 0x58 ∷ 0 ∷ 0x5C ∷ 0
+    ∷ 0x8008 ∷ 0x0C ∷ 0x800C ∷ 0 ∷ 0x8010 ∷ 0x190A ∷ 0x8014 ∷ 0xA0 ∷ 0x8018 ∷ 0x63 ∷ 0x801C ∷ 0x95 ∷ 0x8020 ∷ 0 ∷ 0x8024 ∷ 1 ∷ 0x8000 ∷ 1
+    ∷ [])
+    -- B1's command in the long form, with 16 zeros behind it: the same
+    ∷ case (compiledIn longForm (plain 8 0 320 240 0) (command 0 0 10 20 100 150 0 0 1 ++ replicate 16 0))
     (0 ∷ 120
     ∷ 0x40 ∷ 0 ∷ 0x44 ∷ 0x50 ∷ 0x50 ∷ 0 ∷ 0x54 ∷ 0 ∷ 0x58 ∷ 0 ∷ 0x5C ∷ 0
     ∷ 0x8008 ∷ 0x0C ∷ 0x800C ∷ 0 ∷ 0x8010 ∷ 0x190A ∷ 0x8014 ∷ 0xA0 ∷ 0x8018 ∷ 0x63 ∷ 0x801C ∷ 0x95 ∷ 0x8020 ∷ 0 ∷ 0x8024 ∷ 1 ∷ 0x8000 ∷ 1
