@@ -1698,6 +1698,14 @@ fn parts_in_either_form() {
                 let part = &list[part_at as usize..][..form as usize];
                 assert_eq!(part[..32], bad);
                 assert!(part[32..].iter().all(|&byte| byte == 0));
+                for draw in DRAW {
+                    let (mut stream, mut memory) = (vec![0xA5; 8192], vec![9; MEMORY]);
+                    let record = screen.record();
+                    let answer = draw(form, &record, &list, &[], &mut stream, &mut memory);
+                    assert_eq!(answer, Drawn { number, place, ..Drawn::default() });
+                    assert!(stream.iter().all(|&byte| byte == 0xA5));
+                    assert!(memory.iter().all(|&byte| byte == 9));
+                }
             }
         }
     }
