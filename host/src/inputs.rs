@@ -407,9 +407,9 @@ pub fn damage(rng: &mut Rng, drawing: &mut Drawing) {
         }
         14 => list.resize(odd_length(rng, size, list.len()), 0),
         15 => {
-            // A command more than a list may have, or one more that is all zero.
+            // A command more than a list may have, or one more, which is all zero or not.
             let length = if rng.one_in(2) { 65 * size } else { list.len() + size };
-            list.resize(length, 0);
+            list.resize(length, rng.pick(&[0, 1]));
         }
         16 => *form = no_form(rng),
         // The same bytes in the other form.

@@ -207,6 +207,8 @@ struct Formed {
     /// By form: 10 for a list that is whole in the other form alone; for 65 commands; where 11 holds too;
     /// and lists of 64 commands that are not 10.
     lengths: [[u64; 4]; 2],
+    /// 11 for a long list with a byte past 31 that is not zero.
+    eleven_past: u64,
     /// By form: 12 for operations 3, 4, 5 and any above, and for nothing else.
     operations: [[u64; 4]; 2],
     /// 12 for one byte past 31 and nothing else, by the byte, and by the operation.
@@ -248,6 +250,7 @@ impl Formed {
             ),
             ("short: 10 by the other form, for 65, before 11; 64", self.lengths[0].to_vec()),
             ("long: the same", self.lengths[1].to_vec()),
+            ("11 before a byte past 31", vec![self.eleven_past]),
             ("short: 12 for operations 3, 4, 5, above alone", self.operations[0].to_vec()),
             ("long: the same", self.operations[1].to_vec()),
             ("12 for bytes 32 to 47 alone", self.past.to_vec()),
@@ -607,6 +610,10 @@ impl Bench {
         *over += u64::from(number == 10 && list.len() == 65 * size);
         *before += u64::from(eleven);
         *most += u64::from(number == 0 && list.len() == 64 * size);
+        if number == 11 {
+            let past = |part: &[u8]| part[32..].iter().any(|&byte| byte != 0);
+            formed.eleven_past += u64::from(list.chunks(size).any(past));
+        }
         if !(12..=15).contains(&number) {
             return;
         }
