@@ -32,7 +32,7 @@ fn u32_at(bytes: &[u8], at: usize) -> u32 {
 }
 
 fn all_zero(bytes: &[u8]) -> bool {
-    bytes.iter().all(|&byte| byte == 0)
+    bytes.iter().fold(0, |any, &byte| any | byte) == 0
 }
 
 // ---- The screen ----
