@@ -11,7 +11,7 @@
 //! Inputs are numbered from FIRST (0); each is made from the seed and its number alone, so
 //! `compare 1 SEED NUMBER` repeats one. Ends with status 1 on a difference, or where a refusal
 //! number was never seen, or not by `feed`, `end`, turning, the older chip's functions and those of the
-//! wear strip where they give it, nor in each form of a list by compiling and drawing, or where something
+//! wear strip where they give it, or not in each form of a list by compiling and drawing; or where something
 //! of `Seen`, on either chip, of `Formed` or of `Worn` was not.
 
 use std::fmt::{Debug, Write};
@@ -614,12 +614,16 @@ impl Bench {
             let past = |part: &[u8]| part[32..].iter().any(|&byte| byte != 0);
             formed.eleven_past += u64::from(list.chunks(size).any(past));
         }
-        if !(12..=15).contains(&number) {
-            return;
+        if (12..=15).contains(&number) {
+            formed.parts[index][usize::from(place > 0)] += 1;
+            let part = &list[size * place as usize..][..size];
+            self.count_part(index, screen, part, number);
         }
-        formed.parts[index][usize::from(place > 0)] += 1;
-        // What the command is refused for alone: as a short one, put right, it is not.
-        let part = &list[size * place as usize..][..size];
+    }
+
+    /// Counts what a command is refused for alone: as a short one, put right, it is not refused with 12.
+    fn count_part(&mut self, index: usize, screen: &[u8], part: &[u8], number: u32) {
+        let formed = &mut self.formed;
         let (old, past) = part.split_at(32);
         let right = |operation: u8| {
             let old = [&[operation], &old[1..]].concat();
