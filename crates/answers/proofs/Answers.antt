@@ -6,7 +6,6 @@ use Rattle.screen.specs.declared.Screen.{Screen}
 use Rattle.screen.specs.declared.ScreenValues.{ScreenValues}
 use Rattle.screen.specs.Narrow.{Narrow}
 use Rattle.screen.specs.Values.{sixValues}
-use Rattle.command.specs.Task.{commandSize}
 use Rattle.compiler.specs.Compile.{Compiling, compilingOf}
 use Rattle.compiler.specs.Part.{partFrom, partSize}
 use Rattle.compiler.specs.declared.Compiled.{Compiled}
@@ -28,29 +27,29 @@ use Rattle.answers.specs.declared.S1dCompiled.{S1dCompiled}
 use Rattle.answers.specs.Answers.{compiledOf, displayWith, pointOf, drawnOf, valuesIn}
 
 -- ---- compiling
-module _ (a : Compiled) (list : List ℕ) (from size : ℕ)
-    (part : (from ≡ partFrom commandSize list (compilingOf a)) × (size ≡ partSize commandSize list (compilingOf a))) where
+module _ (form : ℕ) (a : Compiled) (list : List ℕ) (from size : ℕ)
+    (part : (from ≡ partFrom form list (compilingOf a)) × (size ≡ partSize form list (compilingOf a))) where
   -- an answer that is x
   compiled-as : (x : Compiled) → a ≡ x
       → record { number = compilingOf x .number; place = compilingOf x .place; length = compilingOf x .length; depth = compilingOf x .depth; rotation = compilingOf x .rotation; flag = compilingOf x .flag; «part_at» = from; «part_length» = size }
-      ≡ compiledOf (compilingOf a) list
+      ≡ compiledOf form (compilingOf a) list
   unfolding compiledOf
   compiled-as x e =
       λ t. let c = compilingOf (sym e t) in record { number = c .number; place = c .place; length = c .length; depth = c .depth; rotation = c .rotation; flag = c .flag; «part_at» = part .0 t; «part_length» = part .1 t }
 
   pub compiled-accepted : (n d r f : ℕ) → a ≡ Compiled.Accepted n d r f
-      → record { number = 0; place = 0; length = n; depth = d; rotation = r; flag = f; «part_at» = from; «part_length» = size } ≡ compiledOf (compilingOf a) list
+      → record { number = 0; place = 0; length = n; depth = d; rotation = r; flag = f; «part_at» = from; «part_length» = size } ≡ compiledOf form (compilingOf a) list
   unfolding compilingOf
   compiled-accepted n d r f e = compiled-as (Compiled.Accepted n d r f) e
 
   pub compiled-refused : (n i : ℕ) → a ≡ Compiled.Refused n i
-      → record { number = n; place = i; length = 0; depth = 0; rotation = 0; flag = 0; «part_at» = from; «part_length» = size } ≡ compiledOf (compilingOf a) list
+      → record { number = n; place = i; length = 0; depth = 0; rotation = 0; flag = 0; «part_at» = from; «part_length» = size } ≡ compiledOf form (compilingOf a) list
   unfolding compilingOf
   compiled-refused n i e = compiled-as (Compiled.Refused n i) e
 
 -- an answer whose numbers are c
-pub compiled-with : (r : S1dCompiled) (a : Compiled) (c : Compiling) (list : List ℕ) → r ≡ compiledOf (compilingOf a) list → compilingOf a ≡ c → r ≡ compiledOf c list
-compiled-with r a c list e f = e ∙ ap (λ (x : Compiling). compiledOf x list) f
+pub compiled-with : (form : ℕ) (r : S1dCompiled) (a : Compiled) (c : Compiling) (list : List ℕ) → r ≡ compiledOf form (compilingOf a) list → compilingOf a ≡ c → r ≡ compiledOf form c list
+compiled-with form r a c list e f = e ∙ ap (λ (x : Compiling). compiledOf form x list) f
 
 -- ---- playing
 module _ (a : Played) where

@@ -14,8 +14,8 @@ use Rattle.record.proofs.Choice.{and-left, and-right}
 use Rattle.command.specs.Command.{commandOf, commandBytes}
 use Rattle.command.specs.declared.Command.{Command}
 
--- numbers that a record of 32 bytes has room for
-pub record Storable (c : Command) : Type 0 where
+-- numbers that a record has room for
+pub record Fits (c : Command) : Type 0 where
   pub operation : c .operation < 256
   pub surface : c .surface < 256
   pub raster : c .raster < 256
@@ -26,6 +26,10 @@ pub record Storable (c : Command) : Type 0 where
   pub sx : c .sx < 65536
   pub sy : c .sy < 65536
   pub colour : c .colour < 65536
+
+-- and a command that a record of 32 bytes holds
+pub record Storable (c : Command) : Type 0 where
+  pub fits : Fits c
   pub key : c .key ≡ 0
   pub px : c .px ≡ 0
   pub py : c .py ≡ 0
@@ -44,7 +48,8 @@ high-back a b h k = omega arith
 pub command-back : (c : Command) → Storable c → commandOf (commandBytes c) ≡ c
 unfolding commandOf commandBytes
 command-back c h =
-    rw (word-back (c .x) (h .x), word-back (c .y) (h .y), word-back (c .width) (h .width), word-back (c .height) (h .height), word-back (c .sx) (h .sx), word-back (c .sy) (h .sy), word-back (c .colour) (h .colour), h .key, h .px, h .py, h .pattern)
+    let f = h .fits in
+    rw (word-back (c .x) (f .x), word-back (c .y) (f .y), word-back (c .width) (f .width), word-back (c .height) (f .height), word-back (c .sx) (f .sx), word-back (c .sy) (f .sy), word-back (c .colour) (f .colour), h .key, h .px, h .py, h .pattern)
 
 -- ---- a list by its elements
 first-are : (n : ℕ) (b : List ℕ) → n ≤ length b → tabulate n (λ k. getD b k 0) ++ drop n b ≡ b
@@ -52,7 +57,7 @@ first-are zero b h = refl
 first-are (suc n) [] h = absurd (omega arith)
 first-are (suc n) (x ∷ b) h = ap (λ (l : List ℕ). x ∷ l) (first-are n b (omega arith))
 
-zeros-are : (b : List ℕ) → allZero b ≡ true → b ≡ replicate (length b) 0
+pub zeros-are : (b : List ℕ) → allZero b ≡ true → b ≡ replicate (length b) 0
 unfolding allZero
 zeros-are [] e = refl
 zeros-are (x ∷ b) e =

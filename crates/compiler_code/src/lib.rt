@@ -11,7 +11,13 @@ use screen::ScreenAnswer;
 
 // Compiles: the stream's length with the screen's depth, rotation and flag, or a refusal. The stream buffer then holds
 // the stream, or its old bytes.
-pub fn compile_into(form: u32, screen: &[u8], list: &[u8], words: &[u16], stream: &mut [u8]) -> Compiled
+pub fn compile_into(
+    form: u32,
+    screen: &[u8],
+    list: &[u8],
+    words: &[u16],
+    stream: &mut [u8],
+) -> Compiled
     ensures { λ r. ⌜ compilingOf r ≡ compiling memorySize (task form (now (screen .entry)) (now (list .entry)) (now (words .entry))) (length (now (stream .entry))) ⌝ }
     ensures { λ r. ⌜ r ≡ answerOf (compiling memorySize (task form (now (screen .entry)) (now (list .entry)) (now (words .entry))) (length (now (stream .entry)))) ⌝ }
     ensures { λ r. ⌜ now (stream .exit) ≡ bufferAfter memorySize (task form (now (screen .entry)) (now (list .entry)) (now (words .entry))) (now (stream .entry)) ⌝ }

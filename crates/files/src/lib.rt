@@ -1,6 +1,8 @@
 // What the programs share: the files, words and numbers of their arguments, their buffers, and what they write. The contents of a file,
 // and whether it can be read or written, are the system's: a contract names them, and says what holds of them.
 ghost use mathlib.Core.Path.{_≡_};
+ghost use mathlib.Core.Bool.{cond};
+ghost use Prim.Native.Nat.{_+_, _≤_};
 ghost use lib.ListN.{length, replicate};
 ghost use Rattle.files.specs.System.{YesOrNo, LoadedBytes, LoadedWords, LoadedMemory, GivenNumber};
 use libc::STDERR_FILENO;
@@ -14,6 +16,14 @@ const MOST_WORDS: usize = 262144;
 pub struct Loaded {
     pub ok: bool,
     pub n: usize,
+}
+
+// Room for a list of 64 commands in the long form, and one byte more, so that a longer file is seen.
+pub fn list() -> [u8; 3073]
+    ensures { λ r. ⌜ r ≡ replicate 3073 0 ⌝ }
+    ensures { λ r. ⌜ 3073 ≡ length r ⌝ }
+{
+    [0; 3073]
 }
 
 // Bytes of a word file, one more than the most, so that a longer file is seen.
@@ -122,6 +132,22 @@ pub fn is_word(i: usize, word: &[u8]) -> bool
     let mut path = io::buffer();
     let n = os::arg(i, &mut path);
     check::same(&path[..n], word)
+}
+
+// The form of a list: that of 48-byte records where the arguments say so, else that of 32-byte records.
+pub fn form_of(long: bool) -> u32
+    ensures { λ r. ⌜ r ≡ cond long 48 32 ⌝ }
+{
+    if long { 48 } else { 32 }
+}
+
+// The next argument: the one behind argument i where that is a word, else argument i itself.
+pub fn behind(i: usize, word: bool) -> usize
+    requires { ⌜ i ≤ 4 ⌝ }
+    ensures { λ r. ⌜ r ≡ cond word (i + 1) i ⌝ }
+    ensures { λ r. ⌜ r ≤ i + 1 ⌝ }
+{
+    if word { i + 1 } else { i }
 }
 
 // Whether argument i is left out: there is none, or it is a single `-`.

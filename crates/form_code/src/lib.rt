@@ -9,19 +9,17 @@ ghost use Rattle.command.specs.Task.{shortForm, longForm, isForm};
 ghost use Rattle.form.specs.Turn.{recordIn, turnedList, anyStaysLong, turning, turnedInto};
 use form::Turned;
 
-// Whether a record of the list, in a form, has no short one: by its operation, or by a byte past 31.
-fn any_stays_long(form: u32, list: &[u8]) -> bool
-    requires { ⌜ isForm form ≡ true ⌝ }
-    ensures { λ r. ⌜ r ≡ anyStaysLong (partsOf form (now (list .entry))) ⌝ }
+// Whether a record of a long list has no short one: by its operation, or by a byte past 31.
+fn any_stays_long(list: &[u8]) -> bool
+    ensures { λ r. ⌜ r ≡ anyStaysLong (partsOf longForm (now (list .entry))) ⌝ }
 {
-    let size = form as usize;
-    let count = list.len() / size;
+    let count = list.len() / 48;
     let mut any = false;
     let mut i: usize = 0;
     while i < count {
-        let at = i * size;
+        let at = i * 48;
         let past = at + 32;
-        let end = at + size;
+        let end = at + 48;
         let zero = record_code::all_zero(&list[past..end]);
         any = any | ((2 < list[at]) | !zero);
         i += 1;
@@ -53,14 +51,16 @@ fn put_zeros(target: &mut [u8], at: usize, n: usize)
     }
 }
 
-// Stores a record in a form from `at` on.
+// Stores a record in a form from `at` on; its bytes are read before any is stored, so that 16 of them move at once.
 fn put_record(b: &[u8], form: u32, target: &mut [u8], at: usize)
     requires { ⌜ isForm form ≡ true ⌝ }
     requires { ⌜ 32 ≤ length (now b) ⌝ }
     requires { ⌜ at + form ≤ length (now target) ⌝ }
     ensures { λ _. ⌜ now (target .exit) ≡ sets (now (target .entry)) at (recordIn form (now (b .entry))) ⌝ }
 {
-    put_bytes(target, at, &b[0..32]);
+    let mut first = [0u8; 32];
+    put_bytes(&mut first, 0, &b[0..32]);
+    put_bytes(target, at, &first);
     put_zeros(target, at + 32, form as usize - 32);
 }
 
@@ -83,6 +83,13 @@ fn put_list(from: u32, to: u32, list: &[u8], target: &mut [u8])
     }
 }
 
+// The answer of a refusal.
+fn refused(number: u32) -> Turned
+    ensures { λ r. ⌜ r ≡ record { number = number; length = 0 } ⌝ }
+{
+    Turned { number, length: 0 }
+}
+
 // Turns a list in form `from` into form `to`, or says why not.
 fn turn(from: u32, to: u32, list: &[u8], target: &mut [u8]) -> Turned
     requires { ⌜ isForm from ≡ true ⌝ }
@@ -91,14 +98,16 @@ fn turn(from: u32, to: u32, list: &[u8], target: &mut [u8]) -> Turned
     ensures { λ r. ⌜ now (target .exit) ≡ turnedInto from to (now (list .entry)) (now (target .entry)) ⌝ }
 {
     if !command_code::is_list(from, list) {
-        return Turned { number: 10, length: 0 };
+        return refused(10);
     }
     let length = list.len() as u64 / from as u64 * to as u64;
-    if (target.len() as u64) < length {
-        return Turned { number: 17, length: 0 };
+    let short = (target.len() as u64) < length;
+    let stays = (to < from) & any_stays_long(list);
+    if short {
+        return refused(17);
     }
-    if (to < from) & any_stays_long(from, list) {
-        return Turned { number: 28, length: 0 };
+    if stays {
+        return refused(28);
     }
     put_list(from, to, list, target);
     Turned { number: 0, length }

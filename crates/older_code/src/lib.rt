@@ -120,18 +120,19 @@ fn lent_fault(form: u32, screen: &[u8], list: &[u8], words: &[u16], stream: &[u8
     ensures { λ r. ⌜ r ≡ firstOf (lentRows (task form (now (screen .entry)) (now (list .entry)) (now (words .entry))) (length (now (stream .entry)))) ⌝ }
 {
     let whole = command_code::is_list(form, list);
-    let fails = [
-        !whole,
-        0 < list.len(),
-        0 < words.len(),
-        stream.len() < 144,
-    ];
+    let fails = [!whole, 0 < list.len(), 0 < words.len(), stream.len() < 144];
     record_code::first_of(&LENT_CHECKS, &fails)
 }
 
 // Compiles: the stream's length with the screen's depth, rotation and flag, or a refusal. The stream buffer then holds
 // the stream, or its old bytes.
-pub fn compile_into(form: u32, screen: &[u8], list: &[u8], words: &[u16], stream: &mut [u8]) -> Compiled
+pub fn compile_into(
+    form: u32,
+    screen: &[u8],
+    list: &[u8],
+    words: &[u16],
+    stream: &mut [u8],
+) -> Compiled
     ensures { λ r. ⌜ compilingOf r ≡ olderCompiling (task form (now (screen .entry)) (now (list .entry)) (now (words .entry))) (length (now (stream .entry))) ⌝ }
     ensures { λ r. ⌜ r ≡ answerOf (olderCompiling (task form (now (screen .entry)) (now (list .entry)) (now (words .entry))) (length (now (stream .entry)))) ⌝ }
     ensures { λ r. ⌜ now (stream .exit) ≡ olderBuffer (task form (now (screen .entry)) (now (list .entry)) (now (words .entry))) (now (stream .entry)) ⌝ }

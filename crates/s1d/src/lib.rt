@@ -2,7 +2,7 @@
 ghost use mathlib.Core.Path.{_≡_};
 ghost use lib.ListN.{length};
 ghost use Rattle.screen.specs.Screen.{memorySize};
-ghost use Rattle.command.specs.Task.{task};
+ghost use Rattle.command.specs.Task.{shortForm, longForm, task};
 ghost use Rattle.screen.specs.Values.{valuesWith};
 ghost use Rattle.compiler.specs.Compile.{compiling, bufferAfter};
 ghost use Rattle.chip.specs.Play.{playing, played};
@@ -16,6 +16,7 @@ ghost use Rattle.older.specs.Compile.{olderCompiling, olderBuffer};
 ghost use Rattle.ring.specs.Kept.{emptyRing, taking, hourIn, ringIn, cellsOf};
 ghost use Rattle.wear.specs.Font.{finding};
 ghost use Rattle.wear.specs.Strip.{askWith, stripFor, stripping, listAfter, wordsAfter};
+ghost use Rattle.form.specs.Turn.{turning, turnedInto};
 ghost use Rattle.answers.specs.Answers.{compiledOf, displayWith, pointOf, drawnOf, valuesIn, hourGiven, stripGiven, glyphGiven};
 use answers::S1dCompiled;
 use answers::S1dDrawn;
@@ -24,6 +25,7 @@ use answers::S1dHour;
 use answers::S1dPoint;
 use answers::S1dStrip;
 use answers::S1dValues;
+use form::Turned;
 use reader::Display;
 use reader::Look;
 use ring::Ring;
@@ -283,4 +285,22 @@ pub extern "C" fn s1d_find_glyph(site: &[u8], factory: &[u8], digit: u32) -> S1d
 {
     let found = wear_glyph::find_glyph(site.len() as u64, factory.len() as u64, digit);
     answers_code::glyph_given(found)
+}
+
+// Turns a list of 32-byte records into one of 48-byte records.
+#[no_mangle]
+pub extern "C" fn s1d_to_long(list: &[u8], target: &mut [u8]) -> Turned
+    ensures { λ r. ⌜ r ≡ turning shortForm longForm (now (list .entry)) (length (now (target .entry))) ⌝ }
+    ensures { λ r. ⌜ now (target .exit) ≡ turnedInto shortForm longForm (now (list .entry)) (now (target .entry)) ⌝ }
+{
+    form_code::to_long(list, target)
+}
+
+// Turns a list of 48-byte records back into one of 32-byte records.
+#[no_mangle]
+pub extern "C" fn s1d_to_short(list: &[u8], target: &mut [u8]) -> Turned
+    ensures { λ r. ⌜ r ≡ turning longForm shortForm (now (list .entry)) (length (now (target .entry))) ⌝ }
+    ensures { λ r. ⌜ now (target .exit) ≡ turnedInto longForm shortForm (now (list .entry)) (now (target .entry)) ⌝ }
+{
+    form_code::to_short(list, target)
 }

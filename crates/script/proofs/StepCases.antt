@@ -4,7 +4,7 @@ use mathlib.Core.Path.{_≡_, refl}
 use mathlib.Core.List.{List, [], _∷_, map}
 use lib.ListN.{length, take, replicate}
 use Rattle.screen.specs.Screen.{memorySize}
-use Rattle.command.specs.Task.{task}
+use Rattle.command.specs.Task.{shortForm, task}
 use Rattle.compiler.specs.Compile.{compiling, bufferAfter, compilingOf, answerOf as compiledFrom}
 use Rattle.compiler.specs.declared.Compiled.{Compiled}
 use Rattle.compiler.specs.declared.Compiled.the-variants as compiled
@@ -69,10 +69,10 @@ part-cases = (refl, refl)
 
 -- compiling and playing happen at their own steps, on any desk and any memory
 module _ (c : Compiled) (p : Played) (desk words stream memory : List ℕ) (room : ℕ) where
-  pub compile-cases : (compiledAfter compileStep c desk words room ≡ compiledFrom (compiling memorySize (task (screenOn desk) (listOn desk) (wordsOn desk words)) room))
-      × (streamAfter compileStep desk words stream ≡ bufferAfter memorySize (task (screenOn desk) (listOn desk) (wordsOn desk words)) stream)
-      × (compiledAfter olderStep c desk words room ≡ compiledFrom (olderCompiling (task (screenOn desk) (listOn desk) (wordsOn desk words)) room))
-      × (streamAfter olderStep desk words stream ≡ olderBuffer (task (screenOn desk) (listOn desk) (wordsOn desk words)) stream)
+  pub compile-cases : (compiledAfter compileStep c desk words room ≡ compiledFrom (compiling memorySize (task shortForm (screenOn desk) (listOn desk) (wordsOn desk words)) room))
+      × (streamAfter compileStep desk words stream ≡ bufferAfter memorySize (task shortForm (screenOn desk) (listOn desk) (wordsOn desk words)) stream)
+      × (compiledAfter olderStep c desk words room ≡ compiledFrom (olderCompiling (task shortForm (screenOn desk) (listOn desk) (wordsOn desk words)) room))
+      × (streamAfter olderStep desk words stream ≡ olderBuffer (task shortForm (screenOn desk) (listOn desk) (wordsOn desk words)) stream)
       × (compiledAfter playStep c desk words room ≡ c)
       × (streamAfter playStep desk words stream ≡ stream)
   unfolding compiledAfter streamAfter

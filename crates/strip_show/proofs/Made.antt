@@ -11,7 +11,7 @@ use borrow.Author.Tests.{eqb-false, ne-eqb}
 use Rattle.record.specs.Bytes.{over}
 use Rattle.record.specs.Checks.{firstOf}
 use Rattle.screen.specs.Screen.{memorySize, screenRows, screenOf}
-use Rattle.command.specs.Task.{task}
+use Rattle.command.specs.Task.{shortForm, task}
 use Rattle.unit.specs.Draw.{memoryDrawn}
 use Rattle.screen.specs.declared.Screen.{Screen}
 use Rattle.screen.specs.declared.ScreenAnswer.the-variants as ScreenAnswer
@@ -77,12 +77,12 @@ module _ (t : Strip) (list words : List ℕ) (r : StripAnswer) (answers : stripp
 
     -- the memory that drawing it leaves
     pub drawn : length list ≡ 2048 → length words ≡ 320 → (l w screen memory new : List ℕ) → l ≡ listAfter t list words → w ≡ wordsAfter t list words
-        → new ≡ memoryDrawn memorySize (task screen (take n l) (take k w)) 2097152 memory → new ≡ stripMade t screen memory
+        → new ≡ memoryDrawn memorySize (task shortForm screen (take n l) (take k w)) 2097152 memory → new ≡ stripMade t screen memory
     unfolding stripMade
     drawn a b l w screen memory new e f h =
         h
-        ∙ ap (λ (x : List ℕ). memoryDrawn memorySize (task screen x (take k w)) 2097152 memory) (list-front l e .is)
-        ∙ ap (λ (x : List ℕ). memoryDrawn memorySize (task screen (stripList t) x) 2097152 memory) (words-front w f .is)
+        ∙ ap (λ (x : List ℕ). memoryDrawn memorySize (task shortForm screen x (take k w)) 2097152 memory) (list-front l e .is)
+        ∙ ap (λ (x : List ℕ). memoryDrawn memorySize (task shortForm screen (stripList t) x) 2097152 memory) (words-front w f .is)
         ∙ rw (subst (λ (x : ℕ). stripping t x 320 .number ≡ 0) a (subst (λ (x : ℕ). stripping t (length list) x .number ≡ 0) b (numbers .0)))
 
   -- a refused strip is not drawn

@@ -41,7 +41,14 @@ fn show_asked(ring: Ring, ask: Ask, site: &[u8], screen: &[u8], memory: &mut [u8
         StripAnswer::Made(bytes, count) => {
             let nl = bytes as usize;
             let nw = count as usize;
-            panel_show::run(Asked::Picture, 32, screen, &list[..nl], &words[..nw], memory);
+            panel_show::run(
+                Asked::Picture,
+                32,
+                screen,
+                &list[..nl],
+                &words[..nw],
+                memory,
+            );
         }
     }
 }

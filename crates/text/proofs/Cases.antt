@@ -32,10 +32,15 @@ line-reason : reason 26 ≡ letters "line length below the shown width, not a mu
 unfolding reason
 line-reason = refl
 
-last-reason : reason 27 ≡ letters "sample not 1 to 512 steps ahead or above 100, or age, hours, column, font, digit or place out of range"
+strip-reason : reason 27 ≡ letters "sample not 1 to 512 steps ahead or above 100, or age, hours, column, font, digit or place out of range"
 unfolding reason
-last-reason = refl
+strip-reason = refl
 
-no-reason : reason 28 ≡ []
+form-reasons : (reason 10 ≡ letters "list not a multiple of 32 bytes (long form: 48), or over 64 commands")
+    × (reason 28 ≡ letters "operation above 2, or a byte past 31 not zero: no record of 32 bytes")
+unfolding reason
+form-reasons = (refl, refl)
+
+no-reason : reason 29 ≡ []
 unfolding reason
 no-reason = refl

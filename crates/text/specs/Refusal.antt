@@ -18,7 +18,7 @@ reasons =
     ∷ "window width or height 0, or window outside the view"
     ∷ "window x or width not a multiple of 32 / depth"
     ∷ "window base not a multiple of 4, or image past byte 262144 (13706: 81920)"
-    ∷ "list not a multiple of 32 bytes, or over 64 commands"
+    ∷ "list not a multiple of 32 bytes (long form: 48), or over 64 commands"
     ∷ "a command at a depth below 8 (13706: at any depth)"
     ∷ "operation, surface, raster code or colour too high, or a spare byte not zero"
     ∷ "rectangle width or height 0"
@@ -36,6 +36,7 @@ reasons =
     ∷ "dword address outside 0 to 65535 (13706: 20479)"
     ∷ "line length below the shown width, not a multiple of 32 / depth, or over 1023 dwords"
     ∷ "sample not 1 to 512 steps ahead or above 100, or age, hours, column, font, digit or place out of range"
+    ∷ "operation above 2, or a byte past 31 not zero: no record of 32 bytes"
     ∷ []
 
 -- the reason of a number; none for one that is not given

@@ -1,7 +1,7 @@
 // The reasons of the refusals.
 
 // The reason of 0, of 1 and so on, a line each.
-pub const REASONS: [u8; 1309] = *b"accepted
+pub const REASONS: [u8; 1394] = *b"accepted
 screen record not 32 bytes, flag above 1, or a spare byte not zero
 depth not 1, 2, 4, 8 or 16
 rotation above 3
@@ -11,7 +11,7 @@ main base not a multiple of 4, or image past byte 262144 (13706: 81920)
 window width or height 0, or window outside the view
 window x or width not a multiple of 32 / depth
 window base not a multiple of 4, or image past byte 262144 (13706: 81920)
-list not a multiple of 32 bytes, or over 64 commands
+list not a multiple of 32 bytes (long form: 48), or over 64 commands
 a command at a depth below 8 (13706: at any depth)
 operation, surface, raster code or colour too high, or a spare byte not zero
 rectangle width or height 0
@@ -29,10 +29,11 @@ panel point outside the panel
 dword address outside 0 to 65535 (13706: 20479)
 line length below the shown width, not a multiple of 32 / depth, or over 1023 dwords
 sample not 1 to 512 steps ahead or above 100, or age, hours, column, font, digit or place out of range
+operation above 2, or a byte past 31 not zero: no record of 32 bytes
 ";
 
 // Where each line begins, and where the last one ends.
-pub const STARTS: [usize; 29] = [
+pub const STARTS: [usize; 30] = [
     0,
     9,
     76,
@@ -44,22 +45,23 @@ pub const STARTS: [usize; 29] = [
     355,
     402,
     476,
-    529,
-    580,
-    657,
-    685,
-    727,
-    746,
-    767,
-    805,
-    844,
-    877,
-    917,
-    967,
-    991,
-    1043,
-    1073,
-    1121,
-    1206,
-    1309,
+    545,
+    596,
+    673,
+    701,
+    743,
+    762,
+    783,
+    821,
+    860,
+    893,
+    933,
+    983,
+    1007,
+    1059,
+    1089,
+    1137,
+    1222,
+    1325,
+    1394,
 ];

@@ -16,7 +16,7 @@ use Rattle.screen.specs.declared.Screen.{Screen}
 use Rattle.command.specs.Command.{commandBytes, formed, placed, wordsTaken, commandRows, refusal}
 use Rattle.command.specs.Task.{firstRefusal, allWords}
 use Rattle.command.specs.declared.Command.{Command}
-use Rattle.command.proofs.Bytes.{Storable, command-back}
+use Rattle.command.proofs.Bytes.{Fits, Storable, command-back}
 use Rattle.command.proofs.Commands.{refusal-go}
 use Rattle.unit.specs.Sheet.{sheetCommand, sheetCommands}
 use Rattle.unit.proofs.Listed.{length-sheet}
@@ -121,11 +121,11 @@ each-below [] p k = omega arith
 each-below (x ∷ xs) p zero = p .0
 each-below (x ∷ xs) p (suc k) = each-below xs (p .1) k
 
-command-below : (c : Command) → Storable c → AllBelow 256 (commandBytes c)
+command-below : (c : Command) → Fits c → AllBelow 256 (commandBytes c)
 unfolding commandBytes
 command-below c h = each-below (commandBytes c) (h .operation, (h .surface, (h .raster, omega arith)))
 
 pub list-below : (s : Screen) (cs : List Command) → EachOk s cs → AllBelow 256 (listBytes cs)
 unfolding listBytes EachOk
 list-below s [] p = λ k. omega arith
-list-below s (c ∷ cs) p = below-append 256 (commandBytes c) (listBytes cs) (command-below c (p .0 .storable)) (list-below s cs (p .1))
+list-below s (c ∷ cs) p = below-append 256 (commandBytes c) (listBytes cs) (command-below c (p .0 .storable .fits)) (list-below s cs (p .1))

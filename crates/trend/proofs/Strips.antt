@@ -35,7 +35,7 @@ module _ (s : Screen) (narrow : mainImage s .width ≤ 1024) (short : mainImage 
     unfolding formed mustBeZero commandBytes allZero placed surfaceOf insideImage
     fill-ok colour h f =
         ok-by s (fillAt x y width height colour)
-        (record { operation = omega arith; surface = omega arith; raster = omega arith; x = omega arith; y = omega arith; width = omega arith; height = omega arith; sx = omega arith; sy = omega arith; colour = h; key = refl; px = refl; py = refl; pattern = refl })
+        (record { fits = record { operation = omega arith; surface = omega arith; raster = omega arith; x = omega arith; y = omega arith; width = omega arith; height = omega arith; sx = omega arith; sy = omega arith; colour = h }; key = refl; px = refl; py = refl; pattern = refl })
         refl (rw (leb·zero (s .flag), low-colour colour f) refl) wide high
         (rw (le-leb (x + width) (mainImage s .width) right, le-leb (y + height) (mainImage s .height) bottom) refl)
 
@@ -43,7 +43,7 @@ module _ (s : Screen) (narrow : mainImage s .width ≤ 1024) (short : mainImage 
   unfolding formed mustBeZero commandBytes allZero placed surfaceOf insideImage
   glyph-ok x y right bottom =
       ok-by s (glyphAt x y)
-      (record { operation = omega arith; surface = omega arith; raster = omega arith; x = omega arith; y = omega arith; width = omega arith; height = omega arith; sx = omega arith; sy = omega arith; colour = omega arith; key = refl; px = refl; py = refl; pattern = refl })
+      (record { fits = record { operation = omega arith; surface = omega arith; raster = omega arith; x = omega arith; y = omega arith; width = omega arith; height = omega arith; sx = omega arith; sy = omega arith; colour = omega arith }; key = refl; px = refl; py = refl; pattern = refl })
       refl (rw (leb·zero (s .flag), low-colour 0 (λ e. omega arith)) refl) (omega arith) (omega arith)
       (rw (le-leb (x + glyphSize) (mainImage s .width) right, le-leb (y + glyphSize) (mainImage s .height) bottom) refl)
 

@@ -46,7 +46,7 @@ use Rattle.unit.proofs.Points.{reads-sheet, looks-truly}
 use Rattle.unit.proofs.Whole.{rest-ends, whole-plays, plays-small, sheet-bytes, sheet-length}
 
 -- ---- demand 1
-kept : {A : Type 0} (n : ℕ) (x y : A) → 0 < n → cond (eqb n 0) x y ≡ y
+pub kept : {A : Type 0} (n : ℕ) (x y : A) → 0 < n → cond (eqb n 0) x y ≡ y
 kept n x y h = rw (ne-eqb n 0 (λ z. omega arith)) refl
 
 pub demand-1 : Demand1

@@ -81,7 +81,7 @@ unfolding Placeless readRows
 read-placeless m d v p q memory = (refl, (refl, (refl, (refl, (refl, (refl, (refl, (refl, (refl, tt)))))))))
 
 -- a number and a place that are a table's first are decided by the table
-decided : {n i : ℕ} {rows : List Row} → n ≡ firstOf rows → i ≡ firstPlace rows → Numbered rows → Decided n i rows
+pub decided : {n i : ℕ} {rows : List Row} → n ≡ firstOf rows → i ≡ firstPlace rows → Numbered rows → Decided n i rows
 decided {n} {i} {rows} e g u =
     subst (λ (k : ℕ). Decided k i rows) (sym e)
     (subst (λ (k : ℕ). Decided (firstOf rows) k rows) (sym g)

@@ -16,7 +16,7 @@ use Rattle.record.proofs.Choice.{and-left, and-right}
 use Rattle.record.proofs.Stores.{sets-append}
 use Rattle.command.specs.Command.{commandBytes}
 use Rattle.command.specs.declared.Command.{Command}
-use Rattle.command.proofs.Bytes.{Storable}
+use Rattle.command.proofs.Bytes.{Fits}
 use Rattle.wear.specs.Strip.{fillAt, glyphAt, column, columns, writes, listBytes, allInReach}
 use Rattle.wear.specs.Limits.{commandCount}
 use Rattle.wear.specs.declared.Ask.{Ask}
@@ -83,7 +83,7 @@ half-bytes v h =
     λ t. v % 256 ∷ v / 256 % 256 ∷ e t ∷ f t ∷ []
 
 -- the 32 bytes as eight numbers
-pub command-numbers : (c : Command) → Storable c →
+pub command-numbers : (c : Command) → Fits c →
     sixteen (c .operation + 256 * c .surface + 65536 * c .raster) (c .x + 65536 * c .y) (c .width + 65536 * c .height) (c .sx + 65536 * c .sy) ++ sixteen (c .colour) 0 0 0
     ≡ commandBytes c
 unfolding commandBytes
@@ -93,7 +93,7 @@ command-numbers c h = λ t.
     ++ (pair-bytes (c .width) (c .height) (h .width) (h .height) t ++ pair-bytes (c .sx) (c .sy) (h .sx) (h .sy) t)))
     ++ (half-bytes (c .colour) (h .colour) t ++ (fourBytes 0 ++ (fourBytes 0 ++ fourBytes 0)))
 
-pub command-stored : (l : List ℕ) (at : ℕ) (c : Command) → Storable c → (h p q r : ℕ) → h ≡ c .operation + 256 * c .surface + 65536 * c .raster
+pub command-stored : (l : List ℕ) (at : ℕ) (c : Command) → Fits c → (h p q r : ℕ) → h ≡ c .operation + 256 * c .surface + 65536 * c .raster
     → p ≡ c .x + 65536 * c .y → q ≡ c .width + 65536 * c .height → r ≡ c .sx + 65536 * c .sy
     → {l1 l2 : List ℕ} → l1 ≡ sets l at (sixteen h p q r) → l2 ≡ sets l1 (at + 16) (sixteen (c .colour) 0 0 0) → l2 ≡ sets l at (commandBytes c)
 command-stored l at c s h p q r i j k m e f =

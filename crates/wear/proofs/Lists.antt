@@ -16,9 +16,8 @@ use Rattle.record.proofs.Checks.{first-part, second-part, none, row-fails, row-
 use Rattle.record.proofs.Choice.{and-left, and-right, or-elim, both-ways}
 use Rattle.record.proofs.Stores.{sets-append, sets-over}
 use Rattle.pixel.specs.Depth.{isDepth}
-use Rattle.command.specs.Command.{commandOf, commandBytes, lineWords}
+use Rattle.command.specs.Command.{commandBytes, lineWords}
 use Rattle.command.specs.declared.Command.{Command}
-use Rattle.command.proofs.Bytes.{Storable, command-back}
 use Rattle.ring.specs.Kept.{heightsOf}
 use Rattle.ring.specs.declared.Ring.{Ring}
 use Rattle.ring.proofs.Heights.{heights-count, heights-low}
@@ -45,10 +44,6 @@ pub list-append : (xs ys : List Command) → listBytes (xs ++ ys) ≡ listBytes 
 unfolding listBytes
 list-append [] ys = refl
 list-append (c ∷ xs) ys = ap (λ (l : List ℕ). commandBytes c ++ l) (list-append xs ys) ∙ sym (append-assoc (commandBytes c) (listBytes xs) (listBytes ys))
-
--- the record of a command gives the command
-pub command-again : (c : Command) → Storable c → commandOf (commandBytes c) ≡ c
-command-again c h = command-back c h
 
 -- ---- the parts of the list are the records
 -- 32 bytes in front: the parts from 1 on are those of what is behind them

@@ -131,6 +131,10 @@ fn fill_at(x: u32, y: u32, width: u32, height: u32, colour: u16) -> Command
         sx: 0,
         sy: 0,
         colour,
+        key: 0,
+        px: 0,
+        py: 0,
+        pattern: 0,
     }
 }
 
@@ -193,6 +197,10 @@ fn glyph_at(x: u32, y: u32) -> Command
         sx: 0,
         sy: 0,
         colour: 0,
+        key: 0,
+        px: 0,
+        py: 0,
+        pattern: 0,
     }
 }
 

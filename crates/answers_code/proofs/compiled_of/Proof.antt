@@ -13,10 +13,10 @@ enum-known-c-2 : tie.Need-enum-known-c-2
 enum-known-c-2 c = search needs
 
 returns : tie.Need-returns
-returns c = compiled-accepted _ _ _ _ (c .before .before .before .part-of .ensures) _ _ _ _ (c .before .c .given .1)
+returns c = compiled-accepted _ _ _ _ _ (c .before .before .before .part-of .ensures) _ _ _ _ (c .before .c .given .1)
 
 returns-2 : tie.Need-returns-2
-returns-2 c = compiled-refused _ _ _ _ (c .before .before .before .part-of .ensures) _ _ (c .before .c2 .given .1)
+returns-2 c = compiled-refused _ _ _ _ _ (c .before .before .before .part-of .ensures) _ _ (c .before .c2 .given .1)
 
 pub compiled-of-spec : {M : Type 1} → statement M
 compiled-of-spec =

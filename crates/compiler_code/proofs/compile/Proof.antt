@@ -1,6 +1,5 @@
 use mathlib.Core.Path.{subst, ap, _∙_}
 use borrow.Author.Needs.{needs}
-use Rattle.command.specs.Task.{commandSize}
 use Rattle.compiler.specs.Compile.{Compiling, numbersOf}
 use Rattle.compiler.specs.Part.{RefusedPart}
 use Rattle.compiler_code.proofs.compile.Statement.{statement}
@@ -20,7 +19,7 @@ same-length c = search needs
 
 returns : tie.Need-returns
 returns c = let k = c .before .before .before .before .before .compile-into .ensures in
-    (subst (λ (n : Compiling). RefusedPart commandSize (c .before .before .before .before .before .before .before .before .before .before .before .args .list) (c .refused-part .result) n) (k .0) (c .refused-part .ensures), (c .before .store .ensures ∙ ap numbersOf (k .0), k .1 .1))
+    (subst (λ (n : Compiling). RefusedPart (c .before .before .before .before .before .before .before .before .before .before .before .args .form) (c .before .before .before .before .before .before .before .before .before .before .before .args .list) (c .refused-part .result) n) (k .0) (c .refused-part .ensures), (c .before .store .ensures ∙ ap numbersOf (k .0), k .1 .1))
 
 pub compile-spec : {M : Type 1} → statement M
 compile-spec =

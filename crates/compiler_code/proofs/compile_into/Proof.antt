@@ -1,4 +1,4 @@
-use Prim.Native.Nat.{_≤_}
+use Prim.Native.Nat.{_/_, _≤_}
 use mathlib.Core.Path.{_≡_, sym, _∙_}
 use native.Mathlib.Omega.{arith}
 use lib.ListN.{length}
@@ -6,7 +6,8 @@ use borrow.Author.Needs.{needs}
 use Rattle.screen.specs.Screen.{screenOf, memorySize}
 use Rattle.screen.specs.declared.ScreenAnswer.the-variants.{Accepted}
 use Rattle.command.specs.Task.{task}
-use Rattle.command.proofs.Task.{list-says}
+use Rattle.command.proofs.Forms.{form-least, count-most}
+use Rattle.command.proofs.Task.{ListSays, list-says}
 use Rattle.compiler.proofs.Outcome.{told-screen, told-list, told-command, told-left, told-short, told-stream, second-asks}
 use Rattle.compiler_code.proofs.compile_into.Statement.{statement}
 use Rattle.compiler_code.proofs.compile_into.Tie as tie
@@ -28,8 +29,11 @@ whole c = c .before .before
 screen-is : (c : tie.After-known-told2) → screenOf memorySize (c .before .before .before .before .before .before .before .before .args .screen .now) ≡ Accepted (c .before .answer2 .given .0 .0)
 screen-is c = sym (c .before .before .before .read-screen .ensures .0) ∙ c .before .answer2 .given .1
 
-few : (c : tie.Else1) → length (c .before .before .before .before .before .before .before .before .before .before .args .list .now) ≤ 2048
-few c = list-says _ _ _ (sym (c .before .list-fault .ensures) ∙ c .if1 .left) .1
+says : (c : tie.Else1) → ListSays (c .before .before .before .before .before .before .before .before .before .before .args .form) (c .before .before .before .answer2 .given .0 .0) (c .before .before .before .before .before .before .before .before .before .before .args .list .now)
+says c = list-says _ _ _ (sym (c .before .list-fault .ensures) ∙ c .if1 .left)
+
+few : (c : tie.Else1) → length (c .before .before .before .before .before .before .before .before .before .before .args .list .now) / c .before .before .before .before .before .before .before .before .before .before .args .form ≤ 64
+few c = count-most (c .before .before .before .before .before .before .before .before .before .before .args .form) (length (c .before .before .before .before .before .before .before .before .before .before .args .list .now)) (says c .few)
 
 read-screen-requires : tie.Need-read-screen-requires
 read-screen-requires c κs = search needs
@@ -50,7 +54,7 @@ returns-2 : tie.Need-returns-2
 returns-2 c = told-list _ _ _ _ (screen-is (c .before .before)) _ (c .before .list-fault .ensures) (c .if1 .taken)
 
 first-pass-requires : tie.Need-first-pass-requires
-first-pass-requires c κs = few c
+first-pass-requires c κs = (says c .formed, says c .few)
 
 returns-3 : tie.Need-returns-3
 returns-3 c =
@@ -64,6 +68,9 @@ returns-4 c =
     let l = fine f in
     let p = f .before .before .first-pass in
     told-left _ _ _ _ (screen-is (whole l)) _ (l .before .list-fault .ensures) (p .result) (p .ensures .0) (l .if1 .left) (f .if2 .left) (c .if3 .taken)
+
+div-count : tie.Need-div-count
+div-count c = let s = says (fine (taken c)) in omega (arith, form-least (whole (fine (taken c)) .before .before .before .before .before .before .before .before .args .form) (s .formed))
 
 mul-size : tie.Need-mul-size
 mul-size c = omega (arith, few (fine (taken c)))
@@ -96,16 +103,16 @@ second-pass-requires c κs =
     let l = fine f in
     let p = f .before .before .first-pass in
     let a = whole l .before .before .before .before .before .before .before .before .args in
-    second-asks _ (task (a .screen .now) (a .list .now) (a .words .now)) (a .stream .now) _ (screen-is (whole l)) _ (l .before .list-fault .ensures) (p .result) (p .ensures .0) (l .if1 .left) (f .if2 .left) (t .if3 .left) (r .if4 .left) _ (c .before .before .before .put-screen .ensures)
-
-cast-t23 : tie.Need-cast-t23
-cast-t23 c = search needs
+    second-asks _ (task (a .form) (a .screen .now) (a .list .now) (a .words .now)) (a .stream .now) _ (screen-is (whole l)) _ (l .before .list-fault .ensures) (p .result) (p .ensures .0) (l .if1 .left) (f .if2 .left) (t .if3 .left) (r .if4 .left) _ (c .before .before .before .put-screen .ensures)
 
 cast-t24 : tie.Need-cast-t24
 cast-t24 c = search needs
 
 cast-t25 : tie.Need-cast-t25
 cast-t25 c = search needs
+
+cast-t26 : tie.Need-cast-t26
+cast-t26 c = search needs
 
 same-length : tie.Need-same-length
 same-length c = search needs
@@ -134,6 +141,7 @@ compile-into-spec =
     first-pass-requires
     returns-3
     returns-4
+    div-count
     mul-size
     add-size
     mul-size-2
@@ -141,8 +149,8 @@ compile-into-spec =
     returns-5
     put-screen-requires
     second-pass-requires
-    cast-t23
     cast-t24
     cast-t25
+    cast-t26
     same-length
     returns-6)

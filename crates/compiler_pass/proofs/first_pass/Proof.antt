@@ -1,35 +1,52 @@
-use Prim.Native.Nat.{ℕ, _-_, _*_}
+use Prim.Native.Nat.{ℕ, _-_, _*_, _/_, _+_, _<_, _≤_}
 use mathlib.Core.Path.{_≡_, sym, ap, _∙_}
 use native.Mathlib.Nat.{add-sub-cancel-left}
 use native.Mathlib.Omega.{arith}
-use lib.ListN.{take, drop}
+use lib.ListN.{length, take, drop}
 use borrow.Author.Needs.{needs}
 use Rattle.command.specs.Command.{commandAnswer}
-use Rattle.command.specs.Task.{commandSize}
+use Rattle.command.proofs.Forms.{form-least, part-ends, part-formed, count-most}
 use Rattle.compiler.proofs.FirstPass.{Going, partAt, going-start, going-turn, words-fit, pass-refused, pass-done}
 use Rattle.compiler_pass.proofs.first_pass.Statement.{statement}
 use Rattle.compiler_pass.proofs.first_pass.Tie as tie
 
 abbrev Inv-loop : tie.InvT-loop
-Inv-loop s list left count i₀ used₀ i used = Going s commandSize list left count i used
+Inv-loop form s list left size count i₀ used₀ i used = Going s form list left count i used
 
 abbrev μ-loop : tie.MeasureT-loop
-μ-loop s list left count i₀ used₀ i used = count - i
+μ-loop form s list left size count i₀ used₀ i used = count - i
+
+-- command i is one of the list's, and its part ends in it
+within : (c : tie.In-loop Inv-loop μ-loop) → c .before .loop .i < length (c .before .before .before .args .list .now) / c .before .before .before .args .form
+within c = omega (arith, c .loop-test .taken, c .before .loop .inv .count-is)
+
+ends : (c : tie.In-loop Inv-loop μ-loop) → c .before .loop .i * c .before .before .before .args .form + c .before .before .before .args .form ≤ length (c .before .before .before .args .list .now)
+ends c = part-ends (c .before .before .before .args .form) (length (c .before .before .before .args .list .now)) (c .before .loop .i) (within c)
+
+-- at most 64 commands
+few : (c : tie.After-loop Inv-loop μ-loop) → length (c .before .before .before .args .list .now) / c .before .before .before .args .form ≤ 64
+few c = count-most (c .before .before .before .args .form) (length (c .before .before .before .args .list .now)) (c .before .before .before .pre .1)
 
 -- the answer is that to command i
-answered : (c : tie.After-read-command Inv-loop μ-loop) → commandAnswer (c .before .before .before .before .before .args .s) (c .before .before .before .before .before .args .left - c .before .before .before .loop .used) (partAt commandSize (c .before .before .before .before .before .args .list .now) (c .before .before .before .loop .i)) ≡ c .read-command .result
+answered : (c : tie.After-read-command Inv-loop μ-loop) → let a = c .before .before .before .before .before .args in let l = c .before .before .before .loop in
+    commandAnswer (a .s) (a .left - l .used) (partAt (a .form) (a .list .now) (l .i)) ≡ c .read-command .result
 answered c =
-    ap (λ (n : ℕ). commandAnswer (c .before .before .before .before .before .args .s) (c .before .before .before .before .before .args .left - c .before .before .before .loop .used) (take n (drop (c .before .before .before .loop .i * 32) (c .before .before .before .before .before .args .list .now)))) (sym (add-sub-cancel-left (c .before .before .before .loop .i * 32) 32))
+    let a = c .before .before .before .before .before .args in
+    let l = c .before .before .before .loop in
+    ap (λ (n : ℕ). commandAnswer (a .s) (a .left - l .used) (take n (drop (l .i * a .form) (a .list .now)))) (sym (add-sub-cancel-left (l .i * a .form) (a .form)))
     ∙ sym (c .read-command .ensures .0)
+
+div-count : tie.Need-div-count Inv-loop μ-loop
+div-count c = omega (arith, form-least (c .before .args .form) (c .before .pre .0))
 
 loop-holds : tie.Need-loop-holds Inv-loop μ-loop
 loop-holds c = going-start _ _ _ _
 
 mul-at : tie.Need-mul-at Inv-loop μ-loop
-mul-at c = search needs
+mul-at c = omega (arith, ends c)
 
 add-end : tie.Need-add-end Inv-loop μ-loop
-add-end c = search needs
+add-end c = omega (arith, ends c)
 
 sub-read-command : tie.Need-sub-read-command Inv-loop μ-loop
 sub-read-command c = search needs
@@ -41,10 +58,10 @@ part-read-command-start : tie.Need-part-read-command-start Inv-loop μ-loop
 part-read-command-start c = search needs
 
 part-read-command-end : tie.Need-part-read-command-end Inv-loop μ-loop
-part-read-command-end c = search needs
+part-read-command-end c = omega (arith, ends c)
 
 read-command-requires : tie.Need-read-command-requires Inv-loop μ-loop
-read-command-requires c κs = search needs
+read-command-requires c κs = part-formed (c .before .before .before .before .args .form) (c .before .before .before .before .args .list .now) (c .before .before .loop .i) (c .before .before .before .before .pre .0) (within (c .before))
 
 enum-known-answer : tie.Need-enum-known-answer Inv-loop μ-loop
 enum-known-answer c = search needs
@@ -69,7 +86,7 @@ add-used c =
     omega (arith, c .words-taken .ensures, words-fit _ _ _ _ _ (l .i) (l .used) (l .inv) _ (answered (c .before .before .before .before) ∙ c .before .before .answer2 .given .1))
 
 add-i : tie.Need-add-i Inv-loop μ-loop
-add-i c = search needs
+add-i c = omega (arith, c .before .before .before .before .before .before .loop-test .taken, c .before .before .before .before .before .before .before .loop .inv .count-is, count-most (c .before .before .before .before .before .before .before .before .before .args .form) (length (c .before .before .before .before .before .before .before .before .before .args .list .now)) (c .before .before .before .before .before .before .before .before .before .pre .1))
 
 loop-less : tie.Need-loop-less Inv-loop μ-loop
 loop-less c = search needs
@@ -83,7 +100,7 @@ loop-again c =
 returns-2 : tie.Need-returns-2 Inv-loop μ-loop
 returns-2 c =
     let l = c .before .loop in
-    (pass-done _ _ _ _ _ (l .i) (l .used) (l .inv) (c .loop-test .left), omega (arith, l .inv .small, l .inv .within, l .inv .count-is, c .before .before .before .pre))
+    (pass-done _ _ _ _ _ (l .i) (l .used) (l .inv) (c .loop-test .left), omega (arith, l .inv .small, l .inv .within, few c))
 
 pub first-pass-spec : {M : Type 1} → statement M
 first-pass-spec =
@@ -91,6 +108,7 @@ first-pass-spec =
     (tie.spec
     Inv-loop
     μ-loop
+    div-count
     loop-holds
     mul-at
     add-end

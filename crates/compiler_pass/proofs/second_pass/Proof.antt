@@ -1,25 +1,32 @@
-use Prim.Native.Nat.{ℕ, _+_, _-_, _*_, _^_, _<_, _≤_}
+use Prim.Native.Nat.{ℕ, _+_, _-_, _*_, _/_, _^_, _<_, _≤_}
 use mathlib.Core.Path.{_≡_, ap, _∙_}
-use native.Mathlib.Nat.{add-sub-cancel-left}
+use native.Mathlib.Nat.{add-sub-cancel-left, div-le-self}
 use native.Mathlib.Omega.{arith}
 use lib.ListN.{length, take, drop}
 use borrow.Author.Needs.{needs}
 use Rattle.command.specs.Command.{commandOf, wordsTaken}
-use Rattle.command.specs.Task.{commandSize}
+use Rattle.command.proofs.Forms.{form-least, part-ends, part-formed}
 use Rattle.compiler.proofs.FirstPass.{partAt}
 use Rattle.compiler.proofs.SecondPass.{Writing, writing-start, writing-step, writing-end, words-there, room-there, part-length}
 use Rattle.compiler_pass.proofs.second_pass.Statement.{statement}
 use Rattle.compiler_pass.proofs.second_pass.Tie as tie
 
 abbrev Inv-loop : tie.InvT-loop
-Inv-loop s list words buffer₀ commands i₀ used₀ at₀ buffer i used at = Writing s commandSize list words buffer₀ buffer commands i used at
+Inv-loop form s list words buffer₀ size commands i₀ used₀ at₀ buffer i used at = Writing s form list words buffer₀ buffer commands i used at
 
 abbrev μ-loop : tie.MeasureT-loop
-μ-loop s list words buffer₀ commands i₀ used₀ at₀ buffer i used at = commands - i
+μ-loop form s list words buffer₀ size commands i₀ used₀ at₀ buffer i used at = commands - i
+
+-- command i is one of the list's, and its part ends in it
+within : (c : tie.In-loop Inv-loop μ-loop) → c .before .loop .i < length (c .before .before .before .before .before .args .list .now) / c .before .before .before .before .before .args .form
+within c = omega (arith, c .loop-test .taken, c .before .loop .inv .count-is)
+
+ends : (c : tie.In-loop Inv-loop μ-loop) → c .before .loop .i * c .before .before .before .before .before .args .form + c .before .before .before .before .before .args .form ≤ length (c .before .before .before .before .before .args .list .now)
+ends c = part-ends (c .before .before .before .before .before .args .form) (length (c .before .before .before .before .before .args .list .now)) (c .before .loop .i) (within c)
 
 -- the command is that of part i, its words are left, and its records have room
-command-is : (c : tie.After-command-of Inv-loop μ-loop) → c .command-of .result ≡ commandOf (partAt commandSize (c .before .before .before .before .before .before .before .args .list .now) (c .before .before .before .loop .i))
-command-is c = c .command-of .ensures ∙ ap (λ (n : ℕ). commandOf (take n (drop (c .before .before .before .loop .i * 32) (c .before .before .before .before .before .before .before .args .list .now)))) (add-sub-cancel-left (c .before .before .before .loop .i * 32) 32)
+command-is : (c : tie.After-command-of Inv-loop μ-loop) → c .command-of .result ≡ commandOf (partAt (c .before .before .before .before .before .before .before .args .form) (c .before .before .before .before .before .before .before .args .list .now) (c .before .before .before .loop .i))
+command-is c = c .command-of .ensures ∙ ap (λ (n : ℕ). commandOf (take n (drop (c .before .before .before .loop .i * c .before .before .before .before .before .before .before .args .form) (c .before .before .before .before .before .before .before .args .list .now)))) (add-sub-cancel-left (c .before .before .before .loop .i * c .before .before .before .before .before .before .before .args .form) (c .before .before .before .before .before .before .before .args .form))
 
 words-left : (c : tie.After-command-of Inv-loop μ-loop) → c .before .before .before .loop .used + wordsTaken (c .before .before .before .before .before .before .before .args .s) (c .command-of .result) ≤ length (c .before .before .before .before .before .before .before .args .words .now)
 words-left c = let l = c .before .before .before .loop in words-there _ _ _ _ _ (l .buffer) _ (l .i) (l .used) (l .at) (l .inv) _ (c .before .before .loop-test .taken) (command-is c)
@@ -31,14 +38,17 @@ room-left c = let l = c .before .before .before .loop in room-there _ _ _ _ _ (l
 next-at : (c : tie.After-slice-known2 Inv-loop μ-loop) → c .before .before .before .before .before .before .before .before .before .loop .at + 72 + 8 * c .before .before .before .before .before .words-taken .result < 2 ^ 64
 next-at c = omega (arith, room-left (c .before .before .before .before .before .before), c .before .before .before .before .before .words-taken .ensures, c .before .before .before .before .before .before .before .before .before .loop .inv .same, c .before .before .before .before .before .before .before .before .before .before .before .before .before .good)
 
+div-commands : tie.Need-div-commands Inv-loop μ-loop
+div-commands c = omega (arith, form-least (c .before .before .before .args .form) (c .before .before .before .pre .0))
+
 loop-holds : tie.Need-loop-holds Inv-loop μ-loop
 loop-holds c = writing-start _ _ _ _ _ (c .before .before .before .pre .1 .0) (c .before .before .before .pre .1 .1)
 
 mul-from : tie.Need-mul-from Inv-loop μ-loop
-mul-from c = search needs
+mul-from c = omega (arith, ends c, c .before .before .before .before .before .good)
 
 add-to : tie.Need-add-to Inv-loop μ-loop
-add-to c = search needs
+add-to c = omega (arith, ends c, c .before .before .before .before .before .good)
 
 sub-command-of : tie.Need-sub-command-of Inv-loop μ-loop
 sub-command-of c = search needs
@@ -47,10 +57,10 @@ part-command-of-start : tie.Need-part-command-of-start Inv-loop μ-loop
 part-command-of-start c = search needs
 
 part-command-of-end : tie.Need-part-command-of-end Inv-loop μ-loop
-part-command-of-end c = search needs
+part-command-of-end c = omega (arith, ends c)
 
 command-of-requires : tie.Need-command-of-requires Inv-loop μ-loop
-command-of-requires c κs = search needs
+command-of-requires c κs = part-formed (c .before .before .before .before .before .before .args .form) (c .before .before .before .before .before .before .args .list .now) (c .before .before .loop .i) (c .before .before .before .before .before .before .pre .0) (within (c .before))
 
 words-taken-requires : tie.Need-words-taken-requires Inv-loop μ-loop
 words-taken-requires c κs = search needs
@@ -90,7 +100,7 @@ add-at-2 : tie.Need-add-at-2 Inv-loop μ-loop
 add-at-2 c = omega (arith, next-at c)
 
 add-i : tie.Need-add-i Inv-loop μ-loop
-add-i c = search needs
+add-i c = omega (arith, c .before .before .before .before .before .before .before .before .loop-test .taken, c .before .before .before .before .before .before .before .before .before .loop .inv .count-is, div-le-self (length (c .before .before .before .before .before .before .before .before .before .before .before .before .before .args .list .now)) (c .before .before .before .before .before .before .before .before .before .before .before .before .before .args .form), (c .before .before .before .before .before .before .before .before .before .before .before .before .before .good))
 
 loop-less : tie.Need-loop-less Inv-loop μ-loop
 loop-less c = search needs
@@ -114,6 +124,7 @@ second-pass-spec =
     (tie.spec
     Inv-loop
     μ-loop
+    div-commands
     loop-holds
     mul-from
     add-to

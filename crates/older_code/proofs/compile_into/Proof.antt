@@ -35,16 +35,16 @@ returns-2 c = told-lent _ _ _ (screen-is (c .before .before .before)) _ (c .befo
 
 put-screen-requires : tie.Need-put-screen-requires
 put-screen-requires c κs = let a = c .before .before .before .before .before .before .before .before .before .before .before .before .args in
-    room (task (a .screen .now) (a .list .now) (a .words .now)) (a .stream .now) _ (screen-is (c .before .before .before .before)) _ (c .before .before .lent-fault .ensures) (c .before .if1 .left)
-
-cast-t15 : tie.Need-cast-t15
-cast-t15 c = search needs
+    room (task (a .form) (a .screen .now) (a .list .now) (a .words .now)) (a .stream .now) _ (screen-is (c .before .before .before .before)) _ (c .before .before .lent-fault .ensures) (c .before .if1 .left)
 
 cast-t16 : tie.Need-cast-t16
 cast-t16 c = search needs
 
 cast-t17 : tie.Need-cast-t17
 cast-t17 c = search needs
+
+cast-t18 : tie.Need-cast-t18
+cast-t18 c = search needs
 
 same-length-2 : tie.Need-same-length-2
 same-length-2 c = search needs
@@ -64,8 +64,8 @@ compile-into-spec =
     same-length
     returns-2
     put-screen-requires
-    cast-t15
     cast-t16
     cast-t17
+    cast-t18
     same-length-2
     returns-3)

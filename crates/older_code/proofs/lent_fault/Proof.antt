@@ -7,6 +7,9 @@ use borrow.Author.Needs.{needs}
 use Rattle.older_code.proofs.lent_fault.Statement.{statement}
 use Rattle.older_code.proofs.lent_fault.Tie as tie
 
+is-list-requires : tie.Need-is-list-requires
+is-list-requires c κs = search needs
+
 slice-aggregate-first-of : tie.Need-slice-aggregate-first-of
 slice-aggregate-first-of c = search needs
 
@@ -18,9 +21,9 @@ first-of-requires c κs = search needs
 
 returns : tie.Need-returns
 unfolding lentRows olderRecords recordsWith olderBytes rowsWith
-returns c = c .first-of .ensures ∙ cc
+returns c = c .first-of .ensures ∙ (simp (c .before .before .before .is-list .ensures))
 
 pub lent-fault-spec : {M : Type 1} → statement M
 lent-fault-spec =
     tie.close
-    (tie.spec slice-aggregate-first-of slice-aggregate-first-of-2 first-of-requires returns)
+    (tie.spec is-list-requires slice-aggregate-first-of slice-aggregate-first-of-2 first-of-requires returns)

@@ -71,8 +71,8 @@ unfolding compiledAfter streamAfter
 returns c =
     let a = c .before .before .before .before .before .before .before .before .before .before .before .args in
     let is = eq-eqb _ _ (c .before .before .if1 .taken) in (
-      yes _ is (on-desk (c .before .before .before) (λ l w. answerOf (compiling memorySize (task (take 32 (a .desk .now)) l w) (length (a .stream .now)))) (c .compile-into .ensures .1 .0)),
-      yes _ is (on-desk (c .before .before .before) (λ l w. bufferAfter memorySize (task (take 32 (a .desk .now)) l w) (a .stream .now)) (c .compile-into .ensures .1 .1)),
+      yes _ is (on-desk (c .before .before .before) (λ l w. answerOf (compiling memorySize (task 32 (take 32 (a .desk .now)) l w) (length (a .stream .now)))) (c .compile-into .ensures .1 .0)),
+      yes _ is (on-desk (c .before .before .before) (λ l w. bufferAfter memorySize (task 32 (take 32 (a .desk .now)) l w) (a .stream .now)) (c .compile-into .ensures .1 .1)),
     )
 
 compile-into-requires-2 : tie.Need-compile-into-requires-2
@@ -84,8 +84,8 @@ returns-2 c =
     let a = c .before .before .before .before .before .before .before .before .before .before .before .before .args in
     let first = ne-eqb _ _ (c .before .before .before .if1 .left) in
     let is = eq-eqb _ _ (c .before .before .if2 .taken) in (
-      no _ first (yes _ is (on-desk (c .before .before .before .before) (λ l w. answerOf (olderCompiling (task (take 32 (a .desk .now)) l w) (length (a .stream .now)))) (c .compile-into2 .ensures .1 .0))),
-      no _ first (yes _ is (on-desk (c .before .before .before .before) (λ l w. olderBuffer (task (take 32 (a .desk .now)) l w) (a .stream .now)) (c .compile-into2 .ensures .1 .1))),
+      no _ first (yes _ is (on-desk (c .before .before .before .before) (λ l w. answerOf (olderCompiling (task 32 (take 32 (a .desk .now)) l w) (length (a .stream .now)))) (c .compile-into2 .ensures .1 .0))),
+      no _ first (yes _ is (on-desk (c .before .before .before .before) (λ l w. olderBuffer (task 32 (take 32 (a .desk .now)) l w) (a .stream .now)) (c .compile-into2 .ensures .1 .1))),
     )
 
 returns-3 : tie.Need-returns-3

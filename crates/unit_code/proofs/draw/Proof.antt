@@ -11,7 +11,7 @@ use Rattle.unit_code.proofs.draw.Tie as tie
 returns : tie.Need-returns
 returns c =
     let a = c .before .before .before .before .before .before .args in
-    other-size (task (a .screen .now) (a .list .now) (a .words .now)) (a .stream .now) (a .memory .now) (c .if1 .taken)
+    other-size (task (a .form) (a .screen .now) (a .list .now) (a .words .now)) (a .stream .now) (a .memory .now) (c .if1 .taken)
 
 compile-into-requires : tie.Need-compile-into-requires
 compile-into-requires c κs = search needs
@@ -33,7 +33,7 @@ part-play-end c =
     let a = c .before .before .before .before .before .before .before .before .before .before .before .before .before .before .args in
     let e = c .before .before .before .before .before .before .compile-into .ensures in
     let g = c .before .before .compiled2 .given in
-    let p = part-fits (task (a .screen .now) (a .list .now) (a .words .now)) (a .stream .now) (a .memory .now) (c .before .before .before .before .before .before .before .before .if1 .left) _ (e .1 .1) (g .0 .0) (g .0 .1 .0) (g .0 .1 .1 .0) (g .0 .1 .1 .1 .0) (ap compilingOf (sym (g .1)) ∙ e .0) in
+    let p = part-fits (task (a .form) (a .screen .now) (a .list .now) (a .words .now)) (a .stream .now) (a .memory .now) (c .before .before .before .before .before .before .before .before .if1 .left) _ (e .1 .1) (g .0 .0) (g .0 .1 .0) (g .0 .1 .1 .0) (g .0 .1 .1 .1 .0) (ap compilingOf (sym (g .1)) ∙ e .0) in
     omega (arith, p)
 
 play-requires : tie.Need-play-requires
@@ -53,7 +53,7 @@ returns-2 c =
     let a = c .before .before .before .before .before .before .before .before .before .before .before .before .before .args in
     let e = c .before .before .before .before .before .compile-into .ensures in
     let g = c .before .compiled .given in
-    compile-refused (task (a .screen .now) (a .list .now) (a .words .now)) (a .stream .now) (a .memory .now) (c .before .before .before .before .before .before .before .if1 .left) _ (e .1 .1) (g .0 .0) (g .0 .1 .0) (ap compilingOf (sym (g .1)) ∙ e .0) (sym (g .1) ∙ e .1 .0)
+    compile-refused (task (a .form) (a .screen .now) (a .list .now) (a .words .now)) (a .stream .now) (a .memory .now) (c .before .before .before .before .before .before .before .if1 .left) _ (e .1 .1) (g .0 .0) (g .0 .1 .0) (ap compilingOf (sym (g .1)) ∙ e .0) (sym (g .1) ∙ e .1 .0)
 
 same-length-2 : tie.Need-same-length-2
 same-length-2 c = search needs
@@ -68,7 +68,7 @@ returns-3 c =
     let g = c .before .before .before .before .before .before .before .before .before .before .compiled2 .given in
     let p = c .before .before .before .before .before .play .ensures in
     let h = c .before .played .given in
-    absurd (play-accepts (task (a .screen .now) (a .list .now) (a .words .now)) (a .stream .now) (a .memory .now) (c .before .before .before .before .before .before .before .before .before .before .before .before .before .before .before .before .if1 .left) _ (e .1 .1) (g .0 .0) (g .0 .1 .0) (g .0 .1 .1 .0) (g .0 .1 .1 .1 .0) (ap compilingOf (sym (g .1)) ∙ e .0) (record { screen = λ k. (c .before .before .before .before .before .before .before .before .before .before .before .before .before .before .before .before .before .before .before .before .before .shared-slice-known .given k) .fits; list = λ k. (c .before .before .before .before .before .before .before .before .before .before .before .before .before .before .before .before .before .before .before .before .shared-slice-known2 .given k) .fits; words = λ k. (c .before .before .before .before .before .before .before .before .before .before .before .before .before .before .before .before .before .before .before .shared-slice-known3 .given k) .fits }) (λ k. (c .before .before .before .before .before .before .before .before .before .before .before .before .before .before .before .before .before .slice-known2 .given k) .fits) _ refl (h .0 .0) (h .0 .1 .0) (sym (h .1) ∙ p .1 .0))
+    absurd (play-accepts (task (a .form) (a .screen .now) (a .list .now) (a .words .now)) (a .stream .now) (a .memory .now) (c .before .before .before .before .before .before .before .before .before .before .before .before .before .before .before .before .if1 .left) _ (e .1 .1) (g .0 .0) (g .0 .1 .0) (g .0 .1 .1 .0) (g .0 .1 .1 .1 .0) (ap compilingOf (sym (g .1)) ∙ e .0) (record { screen = λ k. (c .before .before .before .before .before .before .before .before .before .before .before .before .before .before .before .before .before .before .before .before .before .shared-slice-known .given k) .fits; list = λ k. (c .before .before .before .before .before .before .before .before .before .before .before .before .before .before .before .before .before .before .before .before .shared-slice-known2 .given k) .fits; words = λ k. (c .before .before .before .before .before .before .before .before .before .before .before .before .before .before .before .before .before .before .before .shared-slice-known3 .given k) .fits }) (λ k. (c .before .before .before .before .before .before .before .before .before .before .before .before .before .before .before .before .before .slice-known2 .given k) .fits) _ refl (h .0 .0) (h .0 .1 .0) (sym (h .1) ∙ p .1 .0))
 
 same-length-4 : tie.Need-same-length-4
 same-length-4 c = search needs
@@ -83,7 +83,7 @@ returns-4 c =
     let g = c .before .before .before .before .before .before .before .before .before .before .compiled2 .given in
     let p = c .before .before .before .before .before .play .ensures in
     let h = c .before .played2 .given in
-    draw-accepted (task (a .screen .now) (a .list .now) (a .words .now)) (a .stream .now) (a .memory .now) (c .before .before .before .before .before .before .before .before .before .before .before .before .before .before .before .before .if1 .left) _ (e .1 .1) (g .0 .0) (g .0 .1 .0) (g .0 .1 .1 .0) (g .0 .1 .1 .1 .0) (ap compilingOf (sym (g .1)) ∙ e .0) (record { screen = λ k. (c .before .before .before .before .before .before .before .before .before .before .before .before .before .before .before .before .before .before .before .before .before .shared-slice-known .given k) .fits; list = λ k. (c .before .before .before .before .before .before .before .before .before .before .before .before .before .before .before .before .before .before .before .before .shared-slice-known2 .given k) .fits; words = λ k. (c .before .before .before .before .before .before .before .before .before .before .before .before .before .before .before .before .before .before .before .shared-slice-known3 .given k) .fits }) (λ k. (c .before .before .before .before .before .before .before .before .before .before .before .before .before .before .before .before .before .slice-known2 .given k) .fits) _ refl (h .0 .0) _ (ap playingOf (sym (h .1)) ∙ p .0) (p .1 .1)
+    draw-accepted (task (a .form) (a .screen .now) (a .list .now) (a .words .now)) (a .stream .now) (a .memory .now) (c .before .before .before .before .before .before .before .before .before .before .before .before .before .before .before .before .if1 .left) _ (e .1 .1) (g .0 .0) (g .0 .1 .0) (g .0 .1 .1 .0) (g .0 .1 .1 .1 .0) (ap compilingOf (sym (g .1)) ∙ e .0) (record { screen = λ k. (c .before .before .before .before .before .before .before .before .before .before .before .before .before .before .before .before .before .before .before .before .before .shared-slice-known .given k) .fits; list = λ k. (c .before .before .before .before .before .before .before .before .before .before .before .before .before .before .before .before .before .before .before .before .shared-slice-known2 .given k) .fits; words = λ k. (c .before .before .before .before .before .before .before .before .before .before .before .before .before .before .before .before .before .before .before .shared-slice-known3 .given k) .fits }) (λ k. (c .before .before .before .before .before .before .before .before .before .before .before .before .before .before .before .before .before .slice-known2 .given k) .fits) _ refl (h .0 .0) _ (ap playingOf (sym (h .1)) ∙ p .0) (p .1 .1)
 
 pub draw-spec : {M : Type 1} → statement M
 draw-spec =
