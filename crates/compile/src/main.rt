@@ -95,9 +95,9 @@ fn load_list(older: bool, i: usize, list: &mut [u8]) -> Loaded
 
 fn main() {
     let long = files::is_word(1, b"--long");
-    let next = files::behind(1, long);
+    let next = files::behind(1, long, 1);
     let older = files::is_word(next, b"13706");
-    let first = files::behind(next, older);
+    let first = files::behind(next, older, 1);
     let count = os::arg_count();
     if count < next + 2 || first + 3 < count {
         files::say(

@@ -141,13 +141,13 @@ pub fn form_of(long: bool) -> u32
     if long { 48 } else { 32 }
 }
 
-// The next argument: the one behind argument i where that is a word, else argument i itself.
-pub fn behind(i: usize, word: bool) -> usize
-    requires { ⌜ i ≤ 4 ⌝ }
-    ensures { λ r. ⌜ r ≡ cond word (i + 1) i ⌝ }
-    ensures { λ r. ⌜ r ≤ i + 1 ⌝ }
+// The next argument: the n-th behind argument i where that is a word, which with what it asks for has n places; else argument i itself.
+pub fn behind(i: usize, word: bool, n: usize) -> usize
+    requires { ⌜ (i ≤ 4) × (n ≤ 4) ⌝ }
+    ensures { λ r. ⌜ r ≡ cond word (i + n) i ⌝ }
+    ensures { λ r. ⌜ r ≤ i + n ⌝ }
 {
-    if word { i + 1 } else { i }
+    if word { i + n } else { i }
 }
 
 // Whether argument i is left out: there is none, or it is a single `-`.

@@ -13,22 +13,8 @@
 // before the drawing; zeros where it is left out or `-`. VIEW: another screen record, whose panel is shown over the memory
 // that was drawn on SCREEN; SCREEN's own where it is left out or `-`. The stream: at most 2,097,152 bytes, else 17. The
 // buffers are on the stack.
-ghost use Prim.Native.Nat.{_+_, _≤_};
-ghost use mathlib.Core.Path.{_≡_};
-ghost use mathlib.Core.Bool.{cond};
+ghost use Prim.Native.Nat.{_≤_};
 use panel_show::Asked;
-
-// Which argument names the screen record: the one behind the point, or argument i.
-fn screen_at(i: usize, at: bool) -> usize
-    requires { ⌜ i ≤ 2 ⌝ }
-    ensures { λ r. ⌜ r ≡ cond at (i + 3) i ⌝ }
-    ensures { λ r. ⌜ r ≤ 5 ⌝ }
-{
-    if at {
-        return i + 3;
-    }
-    i
-}
 
 // Reads the host words, the memory and the view, the third, fourth and fifth file, and runs.
 fn run_with(asked: Asked, form: u32, first: usize, screen: &[u8], list: &[u8])
@@ -88,9 +74,9 @@ fn run_from(asked: Asked, form: u32, first: usize)
 
 fn main() {
     let long = files::is_word(1, b"--long");
-    let next = files::behind(1, long);
+    let next = files::behind(1, long, 1);
     let at = files::is_word(next, b"--at");
-    let first = screen_at(next, at);
+    let first = files::behind(next, at, 3);
     let count = os::arg_count();
     if count < first + 2 || first + 5 < count {
         files::say(
