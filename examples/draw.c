@@ -22,7 +22,7 @@ static void show(const s1d_compiled *c, const s1d_played *d, uint32_t p, uint32_
 
 int main(void) {
     const uint16_t words[1] = {0}; /* a fill takes no host words */
-    s1d_compiled c = s1d_compile(screen, sizeof screen, list, sizeof list, words, 0, stream, sizeof stream);
+    s1d_compiled c = s1d_compile(S1D_SHORT_FORM, screen, sizeof screen, list, sizeof list, words, 0, stream, sizeof stream);
     if (c.number != S1D_ACCEPTED) {
         printf("compiling refused: %u at %llu\n", c.number, (unsigned long long)c.place);
         return 1;

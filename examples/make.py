@@ -1,7 +1,7 @@
 #!/usr/bin/env python3
-"""Writes the example files beside it: a wear chart of 24 hourly columns, upright and turned, in grey and in colour; one of 48
-columns, and screen records that show the last 24 of them; hourly samples for the program `strip`; a screen of the older units; and
-damaged ones. The same list and words serve every rotation; only the screen record differs."""
+"""Writes the example files beside it: a wear chart of 24 hourly columns, upright and turned, in grey and in colour, its list in both
+forms; one of 48 columns, and screen records that show the last 24 of them; hourly samples for the program `strip`; a screen of the
+older units; and damaged ones. The same list and words serve every rotation; only the screen record differs."""
 import struct
 from pathlib import Path
 
@@ -45,6 +45,11 @@ def screen(depth, rotation, width, height, place=PLACE, whole=WIDTH, first=0, li
 
 def command(operation, surface, x, y, w, h, raster=0, source=(0, 0), colour=0):
     return struct.pack('<BBBBHHHHHHH14x', operation, surface, raster, 0, x, y, w, h, *source, colour)
+
+
+def long_form(commands):
+    """The same list in records of 48 bytes: 16 zeros behind each of 32."""
+    return b''.join(commands[at:at + 32] + bytes(16) for at in range(0, len(commands), 32))
 
 
 def words_of(rows, depth):
@@ -100,6 +105,7 @@ def write(name, data):
 
 commands, words = chart(8, GREY, WORN, 24, WIDTH, 12)
 write('chart.list', commands)
+write('chart-long.list', long_form(commands))
 write('chart.words', words)
 write('upright.screen', screen(8, 0, WIDTH, HEIGHT))
 write('turned-90.screen', screen(8, 1, HEIGHT, WIDTH))
@@ -136,6 +142,8 @@ write('strip-90.screen', record(16, 1, STRIP[::-1], (0, 0), (0, 0), (0, 0), flag
 write('damaged.screen', screen(8, 0, WIDTH + 4, HEIGHT))           # a panel width that is no multiple of 8: refused 4
 at = 7 * 32 + 10                                                   # command 7, the first bar: its height
 write('damaged.list', commands[:at] + struct.pack('<H', 60) + commands[at + 2:])     # past the view's last line: refused 14 7
+at = 2 * 48 + 47                                                   # command 2 in the long form: its last byte
+write('damaged-long.list', long_form(commands)[:at] + b'\1' + long_form(commands)[at + 1:])     # not zero: refused 12 2
 write('damaged.words', words[:-2])                                 # one word short: refused 15 at the last write
 write('odd.words', words[:-1])                                     # half a word: a message, and no output
 write('damaged-length.screen', part[:24] + struct.pack('<H', WIDE - 1) + part[26:])  # a line that is no multiple of 2: refused 26

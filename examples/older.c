@@ -16,7 +16,7 @@ static uint8_t memory[S1D06_MEMORY_LENGTH] = {[0x9600] = 0x50};
 int main(void) {
     const uint8_t list[1] = {0};   /* this chip draws nothing: no commands, */
     const uint16_t words[1] = {0}; /* and so no host words */
-    s1d_compiled c = s1d06_compile(screen, sizeof screen, list, 0, words, 0, stream, sizeof stream);
+    s1d_compiled c = s1d06_compile(S1D_SHORT_FORM, screen, sizeof screen, list, 0, words, 0, stream, sizeof stream);
     if (c.number != S1D_ACCEPTED) {
         printf("refused: %u\n", c.number);
         return 1;

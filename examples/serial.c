@@ -19,7 +19,7 @@ static uint8_t whole[S1D_MEMORY_LENGTH], fed[S1D_MEMORY_LENGTH];
 
 int main(void) {
     const uint16_t words[1] = {0}; /* a fill takes no host words */
-    s1d_compiled c = s1d_compile(screen, sizeof screen, list, sizeof list, words, 0, stream, sizeof stream);
+    s1d_compiled c = s1d_compile(S1D_SHORT_FORM, screen, sizeof screen, list, sizeof list, words, 0, stream, sizeof stream);
     s1d_played w = s1d_play(stream, c.length, whole, sizeof whole);
     if (c.number != S1D_ACCEPTED || w.number != S1D_ACCEPTED) {
         printf("compiling gave %u, playing %u\n", c.number, w.number);

@@ -51,8 +51,8 @@ int main(void) {
         printf("the strip is refused: %u\n", s.number);
         return 1;
     }
-    s1d_drawn d = s1d_draw(screen, sizeof screen, list, s.list_length, words, s.words_length, stream, sizeof stream, memory,
-                           sizeof memory);
+    s1d_drawn d = s1d_draw(S1D_SHORT_FORM, screen, sizeof screen, list, s.list_length, words, s.words_length, stream, sizeof stream,
+                           memory, sizeof memory);
     if (d.number != S1D_ACCEPTED) {
         printf("drawing refused: %u at %llu\n", d.number, (unsigned long long)d.place);
         return 1;

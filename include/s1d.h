@@ -1,8 +1,9 @@
 /* S1D13A05 display unit: keeping hourly samples and making the drawing list of the wear strip that shows
- * the last of them, compiling a drawing list, playing its stream over a display memory, whole or in
- * small blocks, and reading what a panel point shows; and, where a name begins with s1d06, the same of
- * the older units' S1D13706, which has no blits, so no commands and no player. docs/FORMATS.md has the
- * records, registers and pixels by bytes and bits, and docs/TRUST.md what is proved and what is assumed.
+ * the last of them, compiling a drawing list in either form and turning it into the other one, playing
+ * its stream over a display memory, whole or in small blocks, and reading what a panel point shows; and,
+ * where a name begins with s1d06, the same of the older units' S1D13706, which has no blits, so no
+ * commands and no player. docs/FORMATS.md has the records, registers and pixels by bytes and bits, and
+ * docs/TRUST.md what is proved and what is assumed.
  *
  * Pointers. Each pointer is followed by its length in elements, but for values, which has six, bytes,
  * which has eighteen, and player and ring, which are one. It is valid for that length, and not null even
@@ -25,7 +26,8 @@ extern "C" {
 #endif
 
 #define S1D_SCREEN_LENGTH 32       /* bytes of a screen record */
-#define S1D_COMMAND_LENGTH 32      /* bytes of a command */
+#define S1D_COMMAND_LENGTH 32      /* bytes of a command in the short form */
+#define S1D_LONG_COMMAND_LENGTH 48 /* and in the long form */
 #define S1D_COMMANDS 64            /* most commands of a list */
 #define S1D_STREAM_RECORD_LENGTH 8 /* bytes of a stream record */
 #define S1D_BLOCK_LENGTH 64        /* most bytes of a block that s1d_feed takes */
@@ -46,6 +48,14 @@ extern "C" {
  * command and one for each word. */
 #define S1D_STREAM_LENGTH(commands, words) \
     (S1D_STREAM_RECORD_LENGTH * (6 + 9 * (size_t)(commands) + (size_t)(words)))
+
+/* The form of a list, which the caller names: the bytes of each of its commands. A long command begins
+ * with the bytes of a short one; behind them are 32-33 key colour, 34 and 35 pattern x and y, 36-39
+ * pattern address, and zeros. No operation uses them yet: all of them are zero. */
+enum s1d_form {
+    S1D_SHORT_FORM = 32,
+    S1D_LONG_FORM = 48
+};
 
 /* Byte 0 of a command. */
 enum s1d_operation {
@@ -75,9 +85,10 @@ enum s1d_raster {
  *
  * Refusals. The first whose text holds is given, in the order of the numbers, but that 26 is checked
  * after 5 for main and after 8 for the window, and that commands (12 to 15) and stream records (20 to
- * 23) are checked one after another; s1d_read_point, s1d_draw, s1d_feed, s1d_end and s1d_wear_strip
- * name their own order. 7 to 9, and 26 for the window, apply with flag 1 only. The functions of the
- * S1D13706 ask 6, 9 and 18 with 81920, 25 with 20479, and give 11 for any list that is not empty.
+ * 23) are checked one after another; s1d_read_point, s1d_draw, s1d_feed, s1d_end, s1d_wear_strip,
+ * s1d_to_long and s1d_to_short name their own order. 7 to 9, and 26 for the window, apply with flag 1
+ * only. The functions of the S1D13706 ask 6, 9 and 18 with 81920, 25 with 20479, and give 11 for any
+ * list that is not empty.
  *
  * place is the command's index for 12 to 15, the stream record's for 20 to 23, else 0. Both count
  * from 0. */
@@ -92,7 +103,7 @@ enum s1d_refusal {
     S1D_WINDOW_PLACE = 7,       /* window width or height 0, or window outside the view */
     S1D_WINDOW_DWORDS = 8,      /* window x or width not a multiple of 32 / depth */
     S1D_WINDOW_IMAGE = 9,       /* as 6, for the window */
-    S1D_LIST_FORM = 10,         /* list not a multiple of 32 bytes, or over 64 commands */
+    S1D_LIST_FORM = 10,         /* form not 32 or 48, list not a multiple of so many bytes, or over 64 commands */
     S1D_LIST_DEPTH = 11,        /* a command is present and depth is below 8 */
     S1D_COMMAND_FORM = 12,      /* operation above 2, no such surface, raster code above 15, colour above 255 at
                                    depth 8, or a byte that must be zero is not */
@@ -100,8 +111,8 @@ enum s1d_refusal {
     S1D_RECTANGLE_OUTSIDE = 14, /* destination, or a move's source, not inside the surface */
     S1D_WORDS_MISSING = 15,     /* too few host words for this and the earlier writes */
     S1D_WORDS_LEFT = 16,        /* host words left over at the end */
-    S1D_STREAM_ROOM = 17,       /* stream buffer shorter than the stream; a wear strip's list or word buffer too
-                                   short */
+    S1D_STREAM_ROOM = 17,       /* stream buffer shorter than the stream; a wear strip's list or word buffer, or a
+                                   turned list's target, too short */
     S1D_MEMORY_FORM = 18,       /* memory not 262144 bytes */
     S1D_STREAM_FORM = 19,       /* stream not a multiple of 8 bytes */
     S1D_RECORD_NUMBER = 20,     /* number not a listed register nor 10000h */
@@ -116,6 +127,8 @@ enum s1d_refusal {
     S1D_WEAR_LIMIT = 27,        /* a sample that is not the first and not 1 to 512 steps ahead, or is above 100;
                                    an age above 511; of a wear strip: hours not 1 to 24, column not 1 to 16, a
                                    factory font under 80 bytes, a command's x or y past 65535; a digit above 9 */
+    S1D_NOT_SHORT = 28,         /* a command has no short form: its operation is above 2, or a byte past 31 is
+                                   not zero */
     S1D_BLOCK_FORM = 32         /* block over 64 bytes */
 };
 
@@ -127,8 +140,13 @@ typedef struct s1d_compiled {
     uint32_t rotation;    /* 0 to 3 for 0, 90, 180, 270 degrees counter-clockwise */
     uint32_t flag;        /* 1 with the small window, else 0 */
     uint64_t part_at;     /* 12 to 15: where the refused command begins in the list; else 0 */
-    uint64_t part_length; /* 12 to 15: its 32 bytes; else 0 */
+    uint64_t part_length; /* 12 to 15: its 32 or 48 bytes; else 0 */
 } s1d_compiled;
+
+typedef struct s1d_list {
+    uint32_t number;
+    uint64_t length; /* bytes of the turned list */
+} s1d_list;
 
 typedef struct s1d_played {
     uint32_t number;
@@ -210,11 +228,12 @@ typedef struct s1d_glyph {
     uint64_t length; /* its 8 bytes */
 } s1d_glyph;
 
-/* Compiles a screen record and a list of commands into a stream. words are the pixels of the writes,
- * in order. The answer has the stream's length and the depth, rotation and flag for the settings
- * register; bytes past the stream keep their contents. S1D_STREAM_LENGTH of the list's commands and
- * of words_length is room enough. Refusals 1 to 17, and 26. */
-s1d_compiled s1d_compile(const uint8_t *screen, size_t screen_length,
+/* Compiles a screen record and a list of commands, in a form of s1d_form, into a stream. words are the
+ * pixels of the writes, in order. The answer has the stream's length and the depth, rotation and flag
+ * for the settings register; bytes past the stream keep their contents. S1D_STREAM_LENGTH of the list's
+ * commands and of words_length is room enough. Refusals 1 to 17, and 26. */
+s1d_compiled s1d_compile(uint32_t form,
+                         const uint8_t *screen, size_t screen_length,
                          const uint8_t *list, size_t list_length,
                          const uint16_t *words, size_t words_length,
                          uint8_t *stream, size_t stream_length);
@@ -258,11 +277,28 @@ s1d_point s1d_read_point(uint32_t depth, uint32_t rotation, uint32_t flag,
 
 /* Compiles, then plays the stream: stream and memory as s1d_compile and s1d_play leave them, or both
  * as they were. Refusals 18, then as s1d_compile. */
-s1d_drawn s1d_draw(const uint8_t *screen, size_t screen_length,
+s1d_drawn s1d_draw(uint32_t form,
+                   const uint8_t *screen, size_t screen_length,
                    const uint8_t *list, size_t list_length,
                    const uint16_t *words, size_t words_length,
                    uint8_t *stream, size_t stream_length,
                    uint8_t *memory, size_t memory_length);
+
+/* Turns a list in the short form into one in the long form: behind the 32 bytes of each command come 16
+ * zeros. The turned list, 48 bytes for each command, stands at the target's start; what lies past it there
+ * keeps its contents. Where no operation is above 2, it compiles and draws as the list does, and
+ * s1d_to_short gives back the list's bytes.
+ * Refusals, in the order of checking: 10 (list_length not a multiple of 32, or over 64 commands), 17. */
+s1d_list s1d_to_long(const uint8_t *list, size_t list_length,
+                     uint8_t *target, size_t target_length);
+
+/* Turns a list in the long form into one in the short form: the first 32 bytes of each command. The turned
+ * list stands at the target's start; what lies past it there keeps its contents. Of a command only the
+ * operation and the bytes past 31 are looked at; one that compiling would refuse for another byte is
+ * turned too.
+ * Refusals, in the order of checking: 10 (list_length not a multiple of 48, or over 64 commands), 17, 28. */
+s1d_list s1d_to_short(const uint8_t *list, size_t list_length,
+                      uint8_t *target, size_t target_length);
 
 /* A ring with no sample. */
 s1d_ring s1d_new_ring(void);
@@ -277,13 +313,14 @@ uint32_t s1d_take_sample(s1d_ring *ring, uint16_t sequence, uint32_t height);
  * sample all of them are blank. Changes nothing. Refusal 27 (age above 511). */
 s1d_hour s1d_hour_at(const s1d_ring *ring, uint32_t age);
 
-/* Makes the list and the host words of the wear strip of the last hours, for s1d_compile or s1d_draw on a
- * screen of this depth. (x, y) is the strip's upper left pixel on the main image, column the width of an
- * hour's column. From the left, oldest hour first, each column is a fill of the background, 100 lines high,
- * and then, where its hour has a sample that is not 0, a fill with the bar colour, as many lines high as
- * the sample, down to the lowest line. Then, where the ring has a sample, the newest number follows below
- * the columns, in decimal without leading zeros: from x on a write for each digit, of 8 x 8 pixels, with
- * code S1D_COPY; its pixels are bar where the glyph has a 1 and background where it has a 0.
+/* Makes the list, in the short form, and the host words of the wear strip of the last hours, for
+ * s1d_compile or s1d_draw on a screen of this depth. (x, y) is the strip's upper left pixel on the main
+ * image, column the width of an hour's column. From the left, oldest hour first, each column is a fill of
+ * the background, 100 lines high, and then, where its hour has a sample that is not 0, a fill with the bar
+ * colour, as many lines high as the sample, down to the lowest line. Then, where the ring has a sample, the
+ * newest number follows below the columns, in decimal without leading zeros: from x on a write for each
+ * digit, of 8 x 8 pixels, with code S1D_COPY; its pixels are bar where the glyph has a 1 and background
+ * where it has a 0.
  *
  * A font has the glyphs of the digits from 0 on, 8 bytes each, a byte for each line from the top, the
  * highest bit on the left. A digit is drawn with the site font's glyph where that font has all 8 bytes,
@@ -314,7 +351,8 @@ s1d_glyph s1d_find_glyph(const uint8_t *site, size_t site_length,
  * window offset; 84h 85h window X start; 88h 89h Y start; 8Ch 8Dh X end; 90h 91h Y end, each value's lowest
  * byte first, and the window's all 0 with flag 0. The answer is s1d_compile's; no part of the list is
  * ever refused. Refusals 1 to 9 and 26, 10, 11 (the list is not empty), 16 (there is a host word), 17. */
-s1d_compiled s1d06_compile(const uint8_t *screen, size_t screen_length,
+s1d_compiled s1d06_compile(uint32_t form,
+                           const uint8_t *screen, size_t screen_length,
                            const uint8_t *list, size_t list_length,
                            const uint16_t *words, size_t words_length,
                            uint8_t *stream, size_t stream_length);

@@ -21,6 +21,15 @@ pub struct Played {
     pub values: [u32; 6],
 }
 
+/// A command list that was turned into its other form.
+#[repr(C)]
+#[derive(Clone, Copy, Debug, Default, PartialEq, Eq)]
+pub struct List {
+    pub number: u32,
+    /// In bytes.
+    pub length: u64,
+}
+
 /// The state of a player that is fed in blocks. Any numbers are a state.
 #[repr(C)]
 #[derive(Clone, Copy, Debug, Default, PartialEq, Eq)]

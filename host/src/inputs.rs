@@ -1,5 +1,5 @@
-//! Random inputs, from a seed: records, lists, words, streams, players, points, samples and strips,
-//! whole and damaged.
+//! Random inputs, from a seed: records, lists in both forms, words, streams, players, points, samples and
+//! strips, whole and damaged.
 
 use crate::answers::{Form, Player, Settings};
 use crate::chart::Told;
@@ -134,8 +134,12 @@ const SCREEN_FIELDS: [(usize, usize); 13] = [
 const COMMAND_FIELDS: [(usize, usize); 10] =
     [(0, 1), (1, 1), (2, 1), (4, 2), (6, 2), (8, 2), (10, 2), (12, 2), (14, 2), (16, 2)];
 
-/// What compiling is given; `room` is the stream buffer's length.
+/// Numbers that are no form of a list, and must be seen.
+pub const NO_FORMS: [u32; 7] = [0, 31, 33, 47, 49, 96, u32::MAX];
+
+/// What compiling is given; `form` is the list's, mostly 32 or 48, `room` the stream buffer's length.
 pub struct Drawing {
+    pub form: u32,
     pub screen: Vec<u8>,
     pub list: Vec<u8>,
     pub words: Vec<u16>,
@@ -240,8 +244,8 @@ fn screen_of(
     record
 }
 
-/// A command that is accepted on a screen of depth 8 or 16, and the host words that it takes, at
-/// most `words`.
+/// A command, in the short form, that is accepted on a screen of depth 8 or 16, and the host words that
+/// it takes, at most `words`.
 fn command(rng: &mut Rng, screen: &[u8], words: u64) -> (Vec<u8>, u64) {
     let depth = u64::from(screen[0]);
     let on_window = screen[2] == 1 && rng.one_in(2);
@@ -287,8 +291,48 @@ fn command(rng: &mut Rng, screen: &[u8], words: u64) -> (Vec<u8>, u64) {
     (part, 0)
 }
 
-/// A screen, a list that is accepted on it, its words, and a buffer that holds the stream.
+/// A form of a list.
+fn form_of(rng: &mut Rng) -> u32 {
+    rng.pick(&[32, 48])
+}
+
+/// A number that is no form: one that must be seen, one that is a form in its low bits, or any.
+fn no_form(rng: &mut Rng) -> u32 {
+    let other = match rng.below(8) {
+        0 => form_of(rng) | 1 << rng.between(8, 31),
+        1 => rng.any() as u32 >> rng.below(32),
+        _ => rng.pick(&NO_FORMS),
+    };
+    if matches!(other, 32 | 48) {
+        other + 1
+    } else {
+        other
+    }
+}
+
+/// The length of a list that is no multiple of its form's records, often one of the other form's.
+fn odd_length(rng: &mut Rng, size: usize, length: usize) -> usize {
+    let other = if size == 32 { 48 } else { 32 };
+    let length = match rng.below(4) {
+        0 => length + rng.between(1, size as u64 - 1) as usize,
+        1 => length.saturating_sub(rng.between(1, size as u64 - 1) as usize),
+        _ => other * rng.size(64) as usize,
+    };
+    if length % size == 0 {
+        length + other
+    } else {
+        length
+    }
+}
+
+/// A drawing in any form.
 pub fn accepted(rng: &mut Rng) -> Drawing {
+    let form = form_of(rng);
+    accepted_in(rng, form)
+}
+
+/// A screen, a list in a form that is accepted on it, its words, and a buffer that holds the stream.
+pub fn accepted_in(rng: &mut Rng, form: u32) -> Drawing {
     let screen = screen(rng, MEMORY);
     let count = match rng.below(16) {
         _ if screen[0] < 8 => 0,
@@ -299,7 +343,8 @@ pub fn accepted(rng: &mut Rng) -> Drawing {
     let most = if rng.one_in(50) { MOST_WORDS } else { 20_000 };
     let (mut list, mut taken) = (Vec::new(), 0);
     for _ in 0..count {
-        let (part, words) = command(rng, &screen, most - taken);
+        let (mut part, words) = command(rng, &screen, most - taken);
+        part.resize(form as usize, 0);
         list.extend(part);
         taken += words;
     }
@@ -307,7 +352,7 @@ pub fn accepted(rng: &mut Rng) -> Drawing {
     if rng.one_in(2) {
         room += rng.below(100) as usize;
     }
-    Drawing { screen, list, words: rng.words(taken), room }
+    Drawing { form, screen, list, words: rng.words(taken), room }
 }
 
 /// Damages a screen record in one place.
@@ -322,36 +367,59 @@ fn damage_screen(rng: &mut Rng, screen: &mut Vec<u8>) {
     }
 }
 
+/// Damages a command, in either form, in one place.
+fn damage_command(rng: &mut Rng, part: &mut [u8]) {
+    match rng.below(8) {
+        0 => part[rng.below(part.len() as u64) as usize] = rng.any() as u8,
+        1 => part[0] = operation_above(rng),
+        2..=4 if part.len() > 32 => damage_past(rng, part),
+        _ => nudge(rng, part, &COMMAND_FIELDS),
+    }
+}
+
+/// An operation above 2.
+fn operation_above(rng: &mut Rng) -> u8 {
+    match rng.below(4) {
+        0 => rng.between(3, 255) as u8,
+        1 => rng.pick(&[128, 129, 130, 255]),
+        _ => rng.pick(&[3, 4, 5]),
+    }
+}
+
+/// Changes a byte past 31 of a long command; now and then several.
+fn damage_past(rng: &mut Rng, part: &mut [u8]) {
+    for _ in 0..rng.pick(&[1, 1, 1, 1, 2, 16]) {
+        let byte = if rng.one_in(2) { 1 << rng.below(8) } else { rng.any() as u8 };
+        part[rng.between(32, 47) as usize] = byte;
+    }
+}
+
 /// Damages a drawing in one place.
 pub fn damage(rng: &mut Rng, drawing: &mut Drawing) {
-    let Drawing { screen, list, words, room } = drawing;
-    let commands = list.len() / 32;
-    match rng.below(20) {
+    let Drawing { form, screen, list, words, room } = drawing;
+    let size = if matches!(form, 32 | 48) { *form as usize } else { 32 };
+    let commands = list.len() / size;
+    match rng.below(24) {
         0..=6 => damage_screen(rng, screen),
-        7..=12 if commands > 0 => {
-            let at = 32 * rng.below(commands as u64) as usize;
-            let part = &mut list[at..at + 32];
-            if rng.one_in(6) {
-                part[rng.below(32) as usize] = rng.any() as u8;
-            } else {
-                nudge(rng, part, &COMMAND_FIELDS);
-            }
+        7..=13 if commands > 0 => {
+            let at = size * rng.below(commands as u64) as usize;
+            damage_command(rng, &mut list[at..at + size]);
         }
-        13 => {
-            let length = list.len() as u64 + rng.between(1, 31);
-            list.resize(length as usize, 0);
+        14 => list.resize(odd_length(rng, size, list.len()), 0),
+        15 => {
+            // A command more than a list may have, or one more, which is all zero or not.
+            let length = if rng.one_in(2) { 65 * size } else { list.len() + size };
+            list.resize(length, rng.pick(&[0, 1]));
         }
-        14 => {
-            // A command more than a list may have, or one more that is all zero.
-            let length = if rng.one_in(2) { 65 * 32 } else { list.len() + 32 };
-            list.resize(length, 0);
-        }
-        15 | 16 => {
+        16 => *form = no_form(rng),
+        // The same bytes in the other form.
+        17 => *form = if *form == 32 { 48 } else { 32 },
+        18 | 19 => {
             let left = rng.below(words.len() as u64 + 1);
             let left = if rng.one_in(2) { words.len().saturating_sub(1) } else { left as usize };
             words.truncate(left);
         }
-        17 => {
+        20 => {
             let more = rng.size(40);
             words.extend(rng.words(more));
         }
@@ -363,6 +431,44 @@ pub fn damage(rng: &mut Rng, drawing: &mut Drawing) {
     }
 }
 
+/// A list to turn from a form, and the length of the target: mostly accepted. Bytes are any.
+pub fn turning(rng: &mut Rng, from: u32) -> (Vec<u8>, usize) {
+    let (from, to) = if from == 32 { (32, 48) } else { (48, 32) };
+    let count = match rng.below(8) {
+        0 => 0,
+        1 => 64,
+        2 => rng.between(1, 64),
+        _ => rng.between(1, 6),
+    };
+    let mut list = Vec::new();
+    for _ in 0..count {
+        let part = list.len();
+        list.extend((0..32).map(|_| rng.any() as u8));
+        list[part] %= 3;
+        list.resize(part + from, 0);
+    }
+    if count > 0 && rng.one_in(3) {
+        for _ in 0..rng.pick(&[1, 1, 1, 1, 2]) {
+            let at = from * rng.offset(count - 1) as usize;
+            if from == 48 && !rng.one_in(4) {
+                damage_past(rng, &mut list[at..at + 48]);
+            } else {
+                list[at] = operation_above(rng);
+            }
+        }
+    }
+    match rng.below(12) {
+        0 => list.resize(odd_length(rng, from, list.len()), 0xA5),
+        1 => {
+            let over = rng.pick(&[65, 65, 66, 96, 97, 128]);
+            list.resize(from * over, rng.pick(&[0, 0xA5]));
+        }
+        _ => {}
+    }
+    let room = room(rng, list.len() / from * to);
+    (list, room)
+}
+
 /// What compiling for the older chip is given: mostly accepted, or refused for one thing.
 pub fn older(rng: &mut Rng) -> Drawing {
     // An image that ends with a larger memory ends past the chip's, often by a dword.
@@ -372,7 +478,11 @@ pub fn older(rng: &mut Rng) -> Drawing {
         _ => OLDER_MEMORY,
     };
     let mut screen = screen(rng, memory);
-    let list = if rng.one_in(8) { older_list(rng, &screen) } else { Vec::new() };
+    let mut form = form_of(rng);
+    let list = if rng.one_in(6) { older_list(rng, form, &screen) } else { Vec::new() };
+    if rng.one_in(16) {
+        form = no_form(rng);
+    }
     let count = if rng.one_in(8) { rng.size(40) } else { 0 };
     let room = match rng.below(12) {
         0 => OLDER_STREAM - 1,
@@ -385,17 +495,25 @@ pub fn older(rng: &mut Rng) -> Drawing {
             damage_screen(rng, &mut screen);
         }
     }
-    Drawing { screen, list, words: rng.words(count), room: room as usize }
+    Drawing { form, screen, list, words: rng.words(count), room: room as usize }
 }
 
 /// A list that is not empty: no whole commands, too many, some that are all zero, or one that the
 /// other chip accepts where the depth allows it.
-fn older_list(rng: &mut Rng, screen: &[u8]) -> Vec<u8> {
+fn older_list(rng: &mut Rng, form: u32, screen: &[u8]) -> Vec<u8> {
+    let size = form as usize;
     match rng.below(4) {
-        0 => vec![0; rng.pick(&[1, 31, 33, 64 * 32 + 1])],
-        1 => vec![0; rng.pick(&[65 * 32, 65 * 32 + 1, 128 * 32])],
-        2 => vec![0; 32 * rng.size(64) as usize],
-        _ => command(rng, screen, 0).0,
+        0 => {
+            let whole = size * rng.pick(&[0, 1, 2, 64]);
+            vec![0; odd_length(rng, size, whole)]
+        }
+        1 => vec![0; rng.pick(&[65 * size, 65 * size + 1, 128 * size])],
+        2 => vec![0; size * rng.size(64) as usize],
+        _ => {
+            let mut list = command(rng, screen, 0).0;
+            list.resize(size, 0);
+            list
+        }
     }
 }
 

@@ -1,5 +1,5 @@
-//! Paper 01 three times over, with the line lengths of paper 02's request c) and the places of its
-//! request e), and the proved library beside it.
+//! Paper 01 three times over, with the line lengths of paper 02's request c), the places of its request
+//! e) and the two forms of a list of its request g), and the proved library beside it.
 //!
 //! - `reference`: compiling, playing and the point reader, written for speed; what the library is
 //!   compared with and timed against.
@@ -7,6 +7,9 @@
 //! - `older`: the older chip, request d): compiling, its values and the point reader; not timed.
 //! - `wear`: the ring of samples and the strip, request f), to the same ends as `reference`.
 //! - `chart`: the same from the list of accepted samples, command by command and pixel by pixel.
+//! - `forms`: turning a list into its other form, request g), to the same ends as `reference`.
+//! - `records`: the same record by record and field by field, and what a list in either form compiles to,
+//!   told by short ones.
 //! - `sheet`: the plain sheet, pixel by pixel from the commands, with no register or direction.
 //! - `literal`: an accepted stream played one pixel at a time, in the direction named.
 //! - `unit`: the library, where build.rs found it.
@@ -16,9 +19,11 @@
 
 pub mod answers;
 pub mod chart;
+pub mod forms;
 pub mod inputs;
 pub mod literal;
 pub mod older;
+pub mod records;
 pub mod reference;
 pub mod serial;
 pub mod sheet;
@@ -28,6 +33,7 @@ pub mod wear;
 /// Stands in where the library is not there: the reference against itself.
 #[cfg(not(unit))]
 pub mod unit {
+    pub use crate::forms::{to_long, to_short};
     pub use crate::older;
     pub use crate::reference::{compile, draw, play, read_point};
     pub use crate::serial::{end, feed, new_player};

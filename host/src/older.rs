@@ -19,8 +19,14 @@ const NUMBERS: [(u32, usize); 8] =
     [(0x74, 3), (0x78, 2), (0x7C, 3), (0x80, 2), (0x84, 2), (0x88, 2), (0x8C, 2), (0x90, 2)];
 
 /// Compiles a screen into the front of the stream buffer; a list is refused, and so are host words.
-pub fn compile(screen: &[u8], list: &[u8], words: &[u16], stream: &mut [u8]) -> Compiled {
-    match plan(screen, list, words.len(), stream.len()) {
+pub fn compile(
+    form: u32,
+    screen: &[u8],
+    list: &[u8],
+    words: &[u16],
+    stream: &mut [u8],
+) -> Compiled {
+    match plan(form, screen, list, words.len(), stream.len()) {
         Ok(screen) => {
             write(screen.values(), stream);
             screen.accepted(STREAM)
@@ -30,9 +36,9 @@ pub fn compile(screen: &[u8], list: &[u8], words: &[u16], stream: &mut [u8]) -> 
 }
 
 /// The screen, or refusal 1 to 11, 16, 17 or 26.
-fn plan(screen: &[u8], list: &[u8], words: usize, room: usize) -> Result<Screen, u32> {
+fn plan(form: u32, screen: &[u8], list: &[u8], words: usize, room: usize) -> Result<Screen, u32> {
     let screen = Screen::read(screen, MEMORY)?;
-    if count(list)? > 0 {
+    if count(form, list)? > 0 {
         return Err(11);
     }
     if words > 0 {

@@ -1,6 +1,6 @@
-//! Paper 01 with requests c) and e) of paper 02, in plain Rust: compiling, playing, the point reader.
-//! Playing in blocks is in `serial`, the older chip in `older`; the screen and the point are read here
-//! for a memory of any size.
+//! Paper 01 with requests c), e) and g) of paper 02, in plain Rust: compiling, playing, the point reader.
+//! Playing in blocks is in `serial`, the older chip in `older`, turning a list in `forms`; the screen and
+//! the point are read here for a memory of any size.
 //!
 //! `compile`, `play`, `draw` and `read_point` are not inlined, so that timing them beside the library
 //! is fair.
@@ -12,6 +12,10 @@ pub const MEMORY: usize = 262_144;
 
 /// Most commands of a list.
 const COMMANDS: usize = 64;
+
+/// The forms of a list, by the bytes of a command.
+pub const SHORT: u32 = 32;
+pub const LONG: u32 = 48;
 
 /// The number of a stream record that holds a host data word.
 const DATA: u32 = 0x1_0000;
@@ -28,7 +32,7 @@ fn u32_at(bytes: &[u8], at: usize) -> u32 {
 }
 
 fn all_zero(bytes: &[u8]) -> bool {
-    bytes.iter().all(|&byte| byte == 0)
+    bytes.iter().fold(0, |any, &byte| any | byte) == 0
 }
 
 // ---- The screen ----
@@ -225,7 +229,7 @@ const MOVE: u8 = 1;
 const WRITE: u8 = 2;
 
 impl Command {
-    /// A command of the list, or refusal 12 to 14.
+    /// A command of the list, in either form, or refusal 12 to 14.
     fn read(part: &[u8], screen: &Screen) -> Result<Command, u32> {
         let (operation, surface, code) = (part[0], part[1], part[2]);
         let source_zero = all_zero(&part[12..16]);
@@ -241,6 +245,7 @@ impl Command {
             || screen.depth == 8 && colour > 255
             || !unused_zero
             || part[3] != 0
+            // To the record's end: bytes 32 to 47 are zero too.
             || !all_zero(&part[18..])
         {
             return Err(12);
@@ -285,26 +290,31 @@ struct Plan {
     length: usize,
 }
 
-/// How many commands a list has, or refusal 10.
-pub(crate) fn count(list: &[u8]) -> Result<usize, u32> {
-    let count = list.len() / 32;
-    if list.len() % 32 != 0 || count > COMMANDS {
+/// How many commands a list has in the form that is named, or refusal 10.
+pub(crate) fn count(form: u32, list: &[u8]) -> Result<usize, u32> {
+    let size = match form {
+        SHORT | LONG => form as usize,
+        _ => return Err(10),
+    };
+    let count = list.len() / size;
+    if list.len() % size != 0 || count > COMMANDS {
         return Err(10);
     }
     Ok(count)
 }
 
 /// The plan of a list, or refusal 1 to 17 or 26.
-fn plan(screen: &[u8], list: &[u8], words: usize, room: usize) -> Result<Plan, Refusal> {
+fn plan(form: u32, screen: &[u8], list: &[u8], words: usize, room: usize) -> Result<Plan, Refusal> {
     let whole = |number| (number, 0);
     let screen = Screen::read(screen, MEMORY).map_err(whole)?;
-    let count = count(list).map_err(whole)?;
+    let count = count(form, list).map_err(whole)?;
     if count > 0 && screen.depth < 8 {
         return Err((11, 0));
     }
     let mut commands = [Command::default(); COMMANDS];
     let mut used = 0;
-    for (i, (command, part)) in commands.iter_mut().zip(list.chunks_exact(32)).enumerate() {
+    let parts = list.chunks_exact(form as usize);
+    for (i, (command, part)) in commands.iter_mut().zip(parts).enumerate() {
         *command = Command::read(part, &screen).map_err(|number| (number, i as u64))?;
         used += command.words(screen.depth);
         if used > words {
@@ -369,15 +379,22 @@ impl Plan {
 
 /// Compiles a list into the front of the stream buffer.
 #[inline(never)]
-pub fn compile(screen: &[u8], list: &[u8], words: &[u16], stream: &mut [u8]) -> Compiled {
-    match plan(screen, list, words.len(), stream.len()) {
+pub fn compile(
+    form: u32,
+    screen: &[u8],
+    list: &[u8],
+    words: &[u16],
+    stream: &mut [u8],
+) -> Compiled {
+    match plan(form, screen, list, words.len(), stream.len()) {
         Ok(plan) => {
             plan.write(words, stream);
             plan.screen.accepted(plan.length)
         }
         Err((number, place)) => {
+            let size = u64::from(form);
             let (part_at, part_length) =
-                if (12..=15).contains(&number) { (32 * place, 32) } else { (0, 0) };
+                if (12..=15).contains(&number) { (size * place, size) } else { (0, 0) };
             Compiled { number, place, part_at, part_length, ..Compiled::default() }
         }
     }
@@ -711,6 +728,7 @@ pub fn play(stream: &[u8], memory: &mut [u8]) -> Played {
 /// Compiles and plays: 18, then compiling's refusals, and only then changes a buffer.
 #[inline(never)]
 pub fn draw(
+    form: u32,
     screen: &[u8],
     list: &[u8],
     words: &[u16],
@@ -720,7 +738,7 @@ pub fn draw(
     let planned = if memory.len() != MEMORY {
         Err((18, 0))
     } else {
-        plan(screen, list, words.len(), stream.len())
+        plan(form, screen, list, words.len(), stream.len())
     };
     match planned {
         Ok(plan) => {

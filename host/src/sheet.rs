@@ -77,11 +77,11 @@ fn combined(code: u8, s: u32, d: u32) -> u32 {
         .sum()
 }
 
-/// Draws a list on the sheet, each command changing all its pixels at once.
-pub fn draw(screen: &[u8], list: &[u8], words: &[u16], sheet: &mut [u8]) {
+/// Draws a list, in the form that is named, on the sheet, each command changing all its pixels at once.
+pub fn draw(form: u32, screen: &[u8], list: &[u8], words: &[u16], sheet: &mut [u8]) {
     let mut words = words.iter();
     let mut before = Vec::new();
-    for command in list.chunks(32) {
+    for command in list.chunks(form as usize) {
         let on = surface(screen, command[1]);
         let code = command[2];
         let (x, y) = (number(command, 4), number(command, 6));

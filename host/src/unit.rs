@@ -1,7 +1,7 @@
 //! The proved library, by the functions of include/s1d.h.
 
 use crate::answers::{
-    Compiled, Drawn, Form, Glyph, Hour, Played, Player, Point, Settings, Strip, Values,
+    Compiled, Drawn, Form, Glyph, Hour, List, Played, Player, Point, Settings, Strip, Values,
 };
 
 /// The library's ring. Any numbers are a ring.
@@ -16,6 +16,7 @@ pub struct Ring {
 
 extern "C" {
     fn s1d_compile(
+        form: u32,
         screen: *const u8,
         screen_length: usize,
         list: *const u8,
@@ -59,6 +60,7 @@ extern "C" {
     ) -> Point;
 
     fn s1d_draw(
+        form: u32,
         screen: *const u8,
         screen_length: usize,
         list: *const u8,
@@ -70,6 +72,20 @@ extern "C" {
         memory: *mut u8,
         memory_length: usize,
     ) -> Drawn;
+
+    fn s1d_to_long(
+        list: *const u8,
+        list_length: usize,
+        target: *mut u8,
+        target_length: usize,
+    ) -> List;
+
+    fn s1d_to_short(
+        list: *const u8,
+        list_length: usize,
+        target: *mut u8,
+        target_length: usize,
+    ) -> List;
 
     fn s1d_new_ring() -> Ring;
 
@@ -105,6 +121,7 @@ extern "C" {
     ) -> Glyph;
 
     fn s1d06_compile(
+        form: u32,
         screen: *const u8,
         screen_length: usize,
         list: *const u8,
@@ -133,6 +150,7 @@ extern "C" {
 
 /// Compiling, and the point reader, of either chip.
 type Compile = unsafe extern "C" fn(
+    u32,
     *const u8,
     usize,
     *const u8,
@@ -150,6 +168,7 @@ type ReadPoint =
 
 fn compile_by(
     function: Compile,
+    form: u32,
     screen: &[u8],
     list: &[u8],
     words: &[u16],
@@ -157,6 +176,7 @@ fn compile_by(
 ) -> Compiled {
     unsafe {
         function(
+            form,
             screen.as_ptr(),
             screen.len(),
             list.as_ptr(),
@@ -169,8 +189,14 @@ fn compile_by(
     }
 }
 
-pub fn compile(screen: &[u8], list: &[u8], words: &[u16], stream: &mut [u8]) -> Compiled {
-    compile_by(s1d_compile, screen, list, words, stream)
+pub fn compile(
+    form: u32,
+    screen: &[u8],
+    list: &[u8],
+    words: &[u16],
+    stream: &mut [u8],
+) -> Compiled {
+    compile_by(s1d_compile, form, screen, list, words, stream)
 }
 
 pub fn play(stream: &[u8], memory: &mut [u8]) -> Played {
@@ -211,6 +237,7 @@ pub fn read_point(screen: &Settings, p: u32, q: u32, memory: &[u8]) -> Point {
 }
 
 pub fn draw(
+    form: u32,
     screen: &[u8],
     list: &[u8],
     words: &[u16],
@@ -219,6 +246,7 @@ pub fn draw(
 ) -> Drawn {
     unsafe {
         s1d_draw(
+            form,
             screen.as_ptr(),
             screen.len(),
             list.as_ptr(),
@@ -231,6 +259,14 @@ pub fn draw(
             memory.len(),
         )
     }
+}
+
+pub fn to_long(list: &[u8], target: &mut [u8]) -> List {
+    unsafe { s1d_to_long(list.as_ptr(), list.len(), target.as_mut_ptr(), target.len()) }
+}
+
+pub fn to_short(list: &[u8], target: &mut [u8]) -> List {
+    unsafe { s1d_to_short(list.as_ptr(), list.len(), target.as_mut_ptr(), target.len()) }
 }
 
 pub fn new_ring() -> Ring {
@@ -300,8 +336,14 @@ pub mod older {
     use crate::answers::{Compiled, Point, Settings, Values};
     use crate::older::REGISTERS;
 
-    pub fn compile(screen: &[u8], list: &[u8], words: &[u16], stream: &mut [u8]) -> Compiled {
-        compile_by(s1d06_compile, screen, list, words, stream)
+    pub fn compile(
+        form: u32,
+        screen: &[u8],
+        list: &[u8],
+        words: &[u16],
+        stream: &mut [u8],
+    ) -> Compiled {
+        compile_by(s1d06_compile, form, screen, list, words, stream)
     }
 
     pub fn values(bytes: &[u8; REGISTERS]) -> Values {

@@ -1,11 +1,13 @@
-//! Paper 01's cases S1 to S9 and B1 to B4, cases of paper 02's requests a) and c) to f), and 001's
+//! Paper 01's cases S1 to S9 and B1 to B4, cases of paper 02's requests a) and c) to g), and 001's
 //! examples 1 to 8, on the reference, and on the library where it is linked.
 
-use host::answers::{Compiled, Drawn, Form, Glyph, Hour, Played, Player, Point, Settings, Strip};
+use host::answers::{
+    Compiled, Drawn, Form, Glyph, Hour, List, Played, Player, Point, Settings, Strip,
+};
 use host::chart::Samples;
 use host::reference::MEMORY;
 use host::serial::BLOCK;
-use host::{older, reference, serial, sheet, unit, wear};
+use host::{forms, older, records as turning, reference, serial, sheet, unit, wear};
 
 #[derive(Clone, Copy)]
 struct Screen {
@@ -66,20 +68,23 @@ fn command(operation: u8, surface: u8, code: u8, numbers: [u16; 7]) -> Vec<u8> {
 /// Number and value.
 type Record = (u32, u32);
 
-type Compile = fn(&[u8], &[u8], &[u16], &mut [u8]) -> Compiled;
-type Draw = fn(&[u8], &[u8], &[u16], &mut [u8], &mut [u8]) -> Drawn;
+type Compile = fn(u32, &[u8], &[u8], &[u16], &mut [u8]) -> Compiled;
+type Draw = fn(u32, &[u8], &[u8], &[u16], &mut [u8], &mut [u8]) -> Drawn;
 type Read = fn(&Settings, u32, u32, &[u8]) -> Point;
 
+const COMPILE: [Compile; 2] = [reference::compile, unit::compile];
+const DRAW: [Draw; 2] = [reference::draw, unit::draw];
 const READ: [Read; 2] = [reference::read_point, unit::read_point];
 
-/// Compiles by both; the answer and the stream's records.
+/// Compiles a short list by both; the answer and the stream's records.
 fn compile(screen: &Screen, list: &[u8], words: &[u16]) -> (Compiled, Vec<Record>) {
-    compile_by([reference::compile, unit::compile], screen, list, words, 4096)
+    compile_by(COMPILE, 32, screen, list, words, 4096)
 }
 
-/// Compiles by two functions into a buffer of so many bytes.
+/// Compiles a list in a form by two functions into a buffer of so many bytes.
 fn compile_by(
     [ours, theirs]: [Compile; 2],
+    form: u32,
     screen: &Screen,
     list: &[u8],
     words: &[u16],
@@ -87,8 +92,8 @@ fn compile_by(
 ) -> (Compiled, Vec<Record>) {
     let mut stream = vec![0xA5; room];
     let mut other = stream.clone();
-    let answer = ours(&screen.record(), list, words, &mut stream);
-    assert_eq!(answer, theirs(&screen.record(), list, words, &mut other));
+    let answer = ours(form, &screen.record(), list, words, &mut stream);
+    assert_eq!(answer, theirs(form, &screen.record(), list, words, &mut other));
     assert_eq!(stream, other);
     let half = |bytes: &[u8]| u32::from_le_bytes(bytes.try_into().unwrap());
     let length = answer.length as usize;
@@ -162,9 +167,9 @@ fn move_line(from: u16, to: u16) -> (Vec<(u32, u32)>, Vec<u8>) {
     let mut memory = vec![0; MEMORY];
     (1..=8).zip(&mut memory).for_each(|(pixel, byte)| *byte = pixel);
     let mut drawn = sheet_of(&screen, &list, &memory);
-    for draw in [reference::draw, unit::draw] {
+    for draw in DRAW {
         let mut after = memory.clone();
-        let answer = draw(&screen.record(), &list, &[], &mut stream, &mut after);
+        let answer = draw(32, &screen.record(), &list, &[], &mut stream, &mut after);
         let want = Drawn { length: 15 * 8, values: [0, 2, 0, 0, 0, 0], ..Drawn::default() };
         assert_eq!(answer, want);
         assert_eq!(after, drawn);
@@ -175,7 +180,7 @@ fn move_line(from: u16, to: u16) -> (Vec<(u32, u32)>, Vec<u8>) {
 
 fn sheet_of(screen: &Screen, list: &[u8], memory: &[u8]) -> Vec<u8> {
     let mut drawn = memory.to_vec();
-    sheet::draw(&screen.record(), list, &[], &mut drawn);
+    sheet::draw(32, &screen.record(), list, &[], &mut drawn);
     drawn
 }
 
@@ -218,9 +223,9 @@ fn odd_lines() {
     let list = command(2, 0, 0xC, [1, 0, 3, 2, 0, 0, 0]);
     let words = [0x0201, 0xEE03, 0x0504, 0xEE06];
     let mut stream = vec![0; 19 * 8];
-    for draw in [reference::draw, unit::draw] {
+    for draw in DRAW {
         let mut memory = vec![9; MEMORY];
-        let answer = draw(&screen.record(), &list, &words, &mut stream, &mut memory);
+        let answer = draw(32, &screen.record(), &list, &words, &mut stream, &mut memory);
         assert_eq!((answer.number, answer.length), (0, 19 * 8));
         assert_eq!(memory[..16], [9, 1, 2, 3, 9, 9, 9, 9, 9, 4, 5, 6, 9, 9, 9, 9]);
     }
@@ -426,8 +431,8 @@ fn zero_bytes() {
         for (at, want) in (24..).zip(want) {
             let mut record = Screen { window, ..S1 }.record();
             record[at] = 1;
-            for compile in [reference::compile, unit::compile] {
-                assert_eq!(compile(&record, &[], &[], &mut [0; 48]).number, want, "byte {at}");
+            for compile in COMPILE {
+                assert_eq!(compile(32, &record, &[], &[], &mut [0; 48]).number, want, "byte {at}");
             }
         }
     }
@@ -458,9 +463,9 @@ fn move_on_long_lines() {
     want[17..24].copy_from_slice(&[0, 1, 2, 3, 4, 5, 6]);
     want[33..40].copy_from_slice(&[16, 17, 18, 19, 20, 21, 22]);
     assert_eq!(sheet_of(&screen, &list, &memory), want);
-    for draw in [reference::draw, unit::draw] {
+    for draw in DRAW {
         let mut after = memory.clone();
-        let answer = draw(&screen.record(), &list, &[], &mut [0; 120], &mut after);
+        let answer = draw(32, &screen.record(), &list, &[], &mut [0; 120], &mut after);
         assert_eq!((answer.number, answer.values), (0, [0, 4, 0, 0, 0, 0]));
         assert_eq!(after, want);
     }
@@ -507,12 +512,9 @@ fn window_in_the_gap() {
             let count = |colour| drawn.iter().filter(|&&byte| byte == colour).count();
             assert_eq!(count(1), if main == 1 { pixels } else { 0 });
             assert_eq!(count(2), if inside == 2 { 120 } else { 0 });
-            for (draw, read) in [
-                (reference::draw as Draw, reference::read_point as Read),
-                (unit::draw, unit::read_point),
-            ] {
+            for (draw, read) in DRAW.into_iter().zip(READ) {
                 let mut after = memory.clone();
-                let answer = draw(&screen.record(), list, &[], &mut [0; 192], &mut after);
+                let answer = draw(32, &screen.record(), list, &[], &mut [0; 192], &mut after);
                 assert_eq!(answer.number, 0);
                 assert_eq!(after, drawn);
                 let settings = screen.settings(answer.values);
@@ -796,7 +798,7 @@ const OLDER_READ: [Read; 2] = [older::read_point, unit::older::read_point];
 
 /// The registers' bytes for a screen that is accepted.
 fn older_bytes(screen: &Screen) -> [u8; 18] {
-    let (answer, records) = compile_by(OLDER_COMPILE, screen, &[], &[], 150);
+    let (answer, records) = compile_by(OLDER_COMPILE, 32, screen, &[], &[], 150);
     let want = Compiled {
         length: 144,
         depth: screen.depth.into(),
@@ -900,9 +902,13 @@ fn any_bytes() {
     }
 }
 
-/// The older chip's number of a screen, with a list, words and a buffer of so many bytes.
+/// The older chip's number of a screen, with a short list, words and a buffer of so many bytes.
 fn older_number(screen: &Screen, list: &[u8], words: &[u16], room: usize) -> u32 {
-    let (answer, _) = compile_by(OLDER_COMPILE, screen, list, words, room);
+    older_number_in(32, screen, list, words, room)
+}
+
+fn older_number_in(form: u32, screen: &Screen, list: &[u8], words: &[u16], room: usize) -> u32 {
+    let (answer, _) = compile_by(OLDER_COMPILE, form, screen, list, words, room);
     if answer.number != 0 {
         assert_eq!(answer, Compiled { number: answer.number, ..Compiled::default() });
     }
@@ -1446,9 +1452,9 @@ fn a_strip_on_the_panel() {
     for rotation in 0..4 {
         let panel = if rotation % 2 == 0 { (32, 112) } else { (112, 32) };
         let screen = Screen { depth: 8, rotation, panel, ..S1 };
-        for (draw, read) in [(reference::draw as Draw, READ[0]), (unit::draw, READ[1])] {
+        for (draw, read) in DRAW.into_iter().zip(READ) {
             let (mut memory, mut stream) = (vec![0xEE; MEMORY], vec![0; 4096]);
-            let drawn = draw(&screen.record(), &list, &words, &mut stream, &mut memory);
+            let drawn = draw(32, &screen.record(), &list, &words, &mut stream, &mut memory);
             assert_eq!(drawn.number, 0);
             let settings = screen.settings(drawn.values);
             for v in 0..112 {
@@ -1603,5 +1609,387 @@ fn fonts_of_a_strip() {
             let own = words[7] == 1;
             assert_eq!(own, 8 * digit + 8 <= length);
         }
+    }
+}
+
+// ---- Request g) of 02 ----
+
+type Turn = fn(&[u8], &mut [u8]) -> List;
+
+/// A form, the other one, and turning a list by the reference and by the library.
+type Way = (u32, u32, [Turn; 2]);
+
+const TO_LONG: Way = (32, 48, [forms::to_long, unit::to_long]);
+const TO_SHORT: Way = (48, 32, [forms::to_short, unit::to_short]);
+
+/// Numbers that are no form.
+const NO_FORMS: [u32; 12] = [0, 1, 16, 31, 33, 47, 49, 64, 96, 32 + 256, 48 + 65_536, u32::MAX];
+
+/// Turns a list by both into a target of so many bytes, which keeps what lies past the list; and by its
+/// records.
+fn turn((from, to, both): Way, list: &[u8], room: usize) -> Result<Vec<u8>, u32> {
+    let [mut target, mut other] = [(); 2].map(|()| vec![0xA5; room]);
+    let answer = both[0](list, &mut target);
+    assert_eq!(answer, both[1](list, &mut other));
+    assert_eq!(target, other);
+    let past = target.split_off(answer.length as usize);
+    assert!(past.iter().all(|&byte| byte == 0xA5));
+    let turned = match answer {
+        List { number: 0, .. } => Ok(target),
+        List { number, length } => {
+            assert_eq!(length, 0);
+            Err(number)
+        }
+    };
+    assert_eq!(turned, turning::turned(from, to, list, room));
+    turned
+}
+
+/// A command with 16 zeros behind it.
+fn long(short: &[u8]) -> Vec<u8> {
+    [short, &[0; 16]].concat()
+}
+
+/// A long list of the same command.
+fn longs(short: &[u8], count: usize) -> Vec<u8> {
+    long(short).repeat(count)
+}
+
+/// The number of a list in a form on a screen of depth 8.
+fn number_in(form: u32, list: &[u8]) -> u32 {
+    compile_by(COMPILE, form, &Screen { depth: 8, ..S1 }, list, &[], 8192).0.number
+}
+
+/// B1's fill in 48 bytes: the same stream.
+#[test]
+fn b1_in_the_long_form() {
+    let screen = Screen { depth: 8, ..S1 };
+    let mut list = vec![0, 0, 0, 0, 10, 0, 20, 0, 100, 0, 150, 0, 0, 0, 0, 0, 1];
+    list.resize(48, 0);
+    let (answer, records) = compile_by(COMPILE, 48, &screen, &list, &[], 4096);
+    assert_eq!(answer, Compiled { length: 120, depth: 8, ..Compiled::default() });
+    assert_eq!(records, compile(&screen, &list[..32], &[]).1);
+    let values: Vec<u32> = records.into_iter().map(|record| record.1).collect();
+    assert_eq!(values, [0, 0x50, 0, 0, 0, 0, 0x0C, 0, 0x190A, 0xA0, 0x63, 0x95, 0, 1, 1]);
+}
+
+/// A refused command comes back as its 32 or 48 bytes.
+#[test]
+fn parts_in_either_form() {
+    let screen = Screen { depth: 8, ..S1 };
+    let fill = command(0, 0, 0, [0, 0, 1, 1, 0, 0, 7]);
+    let write = command(2, 0, 0xC, [0, 0, 2, 1, 0, 0, 0]);
+    for (number, bad) in [
+        (12, command(3, 0, 0, [0, 0, 1, 1, 0, 0, 7])),
+        (13, command(0, 0, 0, [0, 0, 0, 1, 0, 0, 7])),
+        (14, command(0, 0, 0, [319, 0, 2, 1, 0, 0, 7])),
+        (15, write),
+    ] {
+        for place in [0, 1, 2, 63] {
+            let mut list = fill.repeat(place);
+            list.extend(&bad);
+            let long: Vec<u8> = list.chunks(32).flat_map(long).collect();
+            for (form, list) in [(32, list), (48, long)] {
+                let (answer, _) = compile_by(COMPILE, form, &screen, &list, &[], 8192);
+                let (place, size) = (place as u64, u64::from(form));
+                let (part_at, part_length) = (place * size, size);
+                let want = Compiled { number, place, part_at, part_length, ..Compiled::default() };
+                assert_eq!(answer, want);
+                let part = &list[part_at as usize..][..form as usize];
+                assert_eq!(part[..32], bad);
+                assert!(part[32..].iter().all(|&byte| byte == 0));
+                for draw in DRAW {
+                    let (mut stream, mut memory) = (vec![0xA5; 8192], vec![9; MEMORY]);
+                    let record = screen.record();
+                    let answer = draw(form, &record, &list, &[], &mut stream, &mut memory);
+                    assert_eq!(answer, Drawn { number, place, ..Drawn::default() });
+                    assert!(stream.iter().all(|&byte| byte == 0xA5));
+                    assert!(memory.iter().all(|&byte| byte == 9));
+                }
+            }
+        }
+    }
+    // 65 commands, and a word too many: the part is empty.
+    for (list, words, number) in [(longs(&fill, 65), &[][..], 10), (long(&fill), &[0], 16)] {
+        let (answer, _) = compile_by(COMPILE, 48, &screen, &list, words, 8192);
+        assert_eq!(answer, Compiled { number, ..Compiled::default() });
+    }
+}
+
+/// Bytes 32 to 47 are zero for each operation; else 12, before 13 to 15, and after an earlier command's.
+#[test]
+fn bytes_past_31() {
+    let screen = Screen { depth: 8, ..S1 };
+    let write = command(2, 0, 0xC, [0, 0, 2, 1, 0, 0, 0]);
+    let commands = [
+        command(0, 0, 0, [0, 0, 1, 1, 0, 0, 7]),
+        command(1, 0, 0xC, [1, 0, 1, 1, 0, 0, 0]),
+        write.clone(),
+        command(0, 0, 0, [0, 0, 0, 1, 0, 0, 7]),
+        command(0, 0, 0, [320, 0, 1, 1, 0, 0, 7]),
+        [write.clone(), write.clone()].concat(),
+    ];
+    // The words are enough for one write.
+    let numbers = [16, 16, 0, 13, 14, 15];
+    for (commands, number) in commands.iter().zip(numbers) {
+        let list: Vec<u8> = commands.chunks(32).flat_map(long).collect();
+        assert_eq!(compile_by(COMPILE, 48, &screen, &list, &[0], 8192).0.number, number);
+        for byte in 32..48 {
+            for value in [1, 128, 255] {
+                let mut list = list.clone();
+                let place = list.len() / 48 - 1;
+                list[48 * place + byte] = value;
+                let (answer, _) = compile_by(COMPILE, 48, &screen, &list, &[0], 8192);
+                assert_eq!((answer.number, answer.place), (12, place as u64), "byte {byte}");
+                // Behind a refused command it is not looked at.
+                let list = [longs(&command(0, 0, 0, [0; 7]), 1), list].concat();
+                let (answer, _) = compile_by(COMPILE, 48, &screen, &list, &[0], 8192);
+                assert_eq!((answer.number, answer.place), (13, 0), "byte {byte}");
+            }
+        }
+    }
+}
+
+/// Operations above 2 are 12 in either form, whatever lies past byte 31.
+#[test]
+fn operations_above_2() {
+    for operation in 0..=255 {
+        // All fields 0 but a rectangle of one pixel: right for a fill, a move and a write.
+        let short = command(operation, 0, 0, [0, 0, 1, 1, 0, 0, 0]);
+        let want = match operation {
+            0 | 1 => 0,
+            2 => 15,
+            _ => 12,
+        };
+        assert_eq!(number_in(32, &short), want);
+        assert_eq!(number_in(48, &long(&short)), want);
+        for byte in [32, 34, 35, 36, 39, 47] {
+            let mut list = long(&short);
+            list[byte] = 1;
+            assert_eq!(number_in(48, &list), 12);
+        }
+    }
+}
+
+/// Lengths in either form, of records that are all zero: a fill of width 0.
+#[test]
+fn lengths_of_lists() {
+    for (length, short, long) in [
+        (0, 0, 0),
+        (1, 10, 10),
+        (16, 10, 10),
+        (31, 10, 10),
+        (32, 13, 10),
+        (33, 10, 10),
+        (47, 10, 10),
+        (48, 10, 13),
+        (49, 10, 10),
+        (64, 13, 10),
+        (96, 13, 13),
+        (144, 10, 13),
+        // 64 short ones, 43 long ones, 65 short ones.
+        (2048, 13, 10),
+        (2064, 10, 13),
+        (2080, 10, 10),
+        // 66 short or 44 long ones; 96 short or 64 long ones.
+        (2112, 10, 13),
+        (3072, 10, 13),
+        // 65 and 66 long ones.
+        (3120, 10, 10),
+        (3168, 10, 10),
+    ] {
+        let list = vec![0; length];
+        // At depth 4, and on the older chip, a command is 11; 10 comes before it.
+        let eleven = |number| if number == 13 { 11 } else { number };
+        for (form, want) in [(32, short), (48, long)] {
+            assert_eq!(number_in(form, &list), want, "{length} bytes in {form}");
+            let (answer, _) = compile_by(COMPILE, form, &S1, &list, &[], 8192);
+            assert_eq!(
+                answer,
+                match want {
+                    0 => Compiled { length: 48, depth: 4, ..Compiled::default() },
+                    _ => Compiled { number: eleven(want), ..Compiled::default() },
+                }
+            );
+            assert_eq!(older_number_in(form, &S1, &list, &[], 144), eleven(want));
+        }
+    }
+}
+
+/// Any other number is no form: 10, with any list, behind the screen's refusals and before all others.
+#[test]
+fn no_forms() {
+    let fill = command(0, 0, 0, [0, 0, 1, 1, 0, 0, 1]);
+    let lists = [vec![], fill.clone(), long(&fill), vec![0; 96], vec![0; 31], vec![0; 3120]];
+    for form in NO_FORMS {
+        for list in &lists {
+            for depth in [4, 8] {
+                let screen = Screen { depth, panel: (64, 64), ..S1 };
+                let (answer, _) = compile_by(COMPILE, form, &screen, list, &[7], 0);
+                assert_eq!(answer, Compiled { number: 10, ..Compiled::default() });
+                assert_eq!(older_number_in(form, &screen, list, &[7], 0), 10);
+                for draw in DRAW {
+                    let mut memory = vec![9; MEMORY];
+                    let answer = draw(form, &screen.record(), list, &[7], &mut [], &mut memory);
+                    assert_eq!(answer, Drawn { number: 10, ..Drawn::default() });
+                    assert!(memory.iter().all(|&byte| byte == 9));
+                    // 18 comes first.
+                    let answer =
+                        draw(form, &screen.record(), list, &[7], &mut [], &mut memory[1..]);
+                    assert_eq!(answer, Drawn { number: 18, ..Drawn::default() });
+                }
+                let window = Some((0, 0, 32, 1, 0));
+                for (bad, number) in [
+                    (Screen { depth: 3, ..screen }, 2),
+                    (Screen { base: 2, ..screen }, 6),
+                    (Screen { lengths: (1, 0), ..screen }, 26),
+                    (Screen { window, lengths: (0, 1), ..screen }, 26),
+                    (Screen { window: Some((0, 0, 32, 1, 2)), ..screen }, 9),
+                ] {
+                    let (answer, _) = compile_by(COMPILE, form, &bad, list, &[7], 0);
+                    assert_eq!(answer, Compiled { number, ..Compiled::default() });
+                    assert_eq!(older_number_in(form, &bad, list, &[7], 0), number);
+                }
+            }
+        }
+    }
+}
+
+/// Three records of 32 bytes are no two of 48.
+#[test]
+fn same_bytes_in_the_other_form() {
+    let fill = command(0, 0, 0, [0, 0, 1, 1, 0, 0, 1]);
+    let (short, long) = (fill.repeat(3), longs(&fill, 2));
+    assert_eq!(number_in(32, &short), 0);
+    assert_eq!(number_in(48, &long), 0);
+    // The second fill's width is byte 40 of the first long record, and byte 24 of the second short one.
+    let screen = Screen { depth: 8, ..S1 };
+    let (answer, _) = compile_by(COMPILE, 48, &screen, &short, &[], 8192);
+    assert_eq!((answer.number, answer.place, answer.part_at), (12, 0, 0));
+    let (answer, _) = compile_by(COMPILE, 32, &screen, &long, &[], 8192);
+    assert_eq!((answer.number, answer.place, answer.part_at), (12, 1, 32));
+}
+
+/// A fill, a move and a write in both forms: the same stream, and the same memory.
+#[test]
+fn a_list_in_both_forms() {
+    let screen = Screen { depth: 8, panel: (8, 2), ..S1 };
+    let short = [
+        command(0, 0, 0, [0, 0, 2, 2, 0, 0, 5]),
+        command(1, 0, 0xC, [1, 0, 2, 2, 0, 0, 0]),
+        command(2, 0, 0xC, [4, 1, 3, 1, 0, 0, 0]),
+    ]
+    .concat();
+    let long = turn(TO_LONG, &short, 144).unwrap();
+    let words = [0x0201, 0xEE03];
+    let (answer, records) = compile_by(COMPILE, 32, &screen, &short, &words, 4096);
+    assert_eq!(answer.length, 8 * (6 + 27 + 2));
+    let both = compile_by(COMPILE, 48, &screen, &long, &words, 4096);
+    assert_eq!(both, (answer, records));
+    let mut drawings = Vec::new();
+    for draw in DRAW {
+        for (form, list) in [(32, &short), (48, &long)] {
+            let (mut stream, mut memory) = (vec![0; 300], vec![9; MEMORY]);
+            let record = screen.record();
+            let answer = draw(form, &record, list, &words, &mut stream, &mut memory);
+            assert_eq!((answer.number, answer.length), (0, 280));
+            assert_eq!(memory[..16], [5, 5, 5, 9, 9, 9, 9, 9, 5, 5, 5, 9, 1, 2, 3, 9]);
+            let mut sheet = vec![9; MEMORY];
+            sheet::draw(form, &record, list, &words, &mut sheet);
+            assert_eq!(memory, sheet);
+            drawings.push((answer, stream));
+        }
+    }
+    assert!(drawings.iter().all(|drawing| *drawing == drawings[0]));
+}
+
+/// Two records there and back: byte 32 n + i goes to 48 n + i.
+#[test]
+fn turned_bytes() {
+    let short: Vec<u8> = (0..64).map(|i| if i % 32 == 0 { 2 } else { 100 + i }).collect();
+    let mut want = short[..32].to_vec();
+    want.extend([0; 16]);
+    want.extend(&short[32..]);
+    want.extend([0; 16]);
+    for room in [96, 97, 112, 144, 1000] {
+        assert_eq!(turn(TO_LONG, &short, room), Ok(want.clone()));
+    }
+    for room in [64, 65, 96, 1000] {
+        assert_eq!(turn(TO_SHORT, &want, room), Ok(short.clone()));
+    }
+    for room in [0, 1, 64, 95] {
+        assert_eq!(turn(TO_LONG, &short, room), Err(17));
+    }
+    for room in [0, 1, 32, 63] {
+        assert_eq!(turn(TO_SHORT, &want, room), Err(17));
+    }
+}
+
+/// Whole records, and at most 64 of them, by the form that a list is turned from; else 10, before 17.
+#[test]
+fn lengths_of_turned_lists() {
+    for count in [0, 1, 2, 43, 63, 64] {
+        assert_eq!(
+            turn(TO_LONG, &vec![1; 32 * count], 48 * count).map(|new| new.len()),
+            Ok(48 * count)
+        );
+        let long = longs(&[1; 32], count);
+        assert_eq!(turn(TO_SHORT, &long, 32 * count), Ok(vec![1; 32 * count]));
+    }
+    for length in [1, 31, 33, 48, 80, 144, 2047, 2049, 2080, 2112, 3072, 4096] {
+        for room in [0, 10_000] {
+            assert_eq!(turn(TO_LONG, &vec![1; length], room), Err(10), "{length}");
+        }
+    }
+    for length in [1, 32, 47, 49, 64, 128, 2048, 3071, 3073, 3120, 3168, 6144] {
+        for room in [0, 10_000] {
+            assert_eq!(turn(TO_SHORT, &vec![1; length], room), Err(10), "{length}");
+        }
+    }
+}
+
+/// Going back: 28 for an operation above 2 and for each byte past 31, in any of the commands, behind 10
+/// and 17.
+#[test]
+fn no_way_back() {
+    let fill = command(0, 0, 0, [0, 0, 1, 1, 0, 0, 1]);
+    for count in [1, 2, 5, 64] {
+        let list = longs(&fill, count);
+        assert_eq!(turn(TO_SHORT, &list, 32 * count), Ok(fill.repeat(count)));
+        for place in [0, count / 2, count - 1] {
+            let changed = |byte: usize, value: u8| {
+                let mut list = list.clone();
+                list[48 * place + byte] = value;
+                list
+            };
+            let mut bad = vec![changed(0, 3), changed(0, 4), changed(0, 5), changed(0, 255)];
+            for byte in 32..48 {
+                bad.extend([1, 128, 255].map(|value| changed(byte, value)));
+            }
+            for bad in bad {
+                for room in [32 * count, 32 * count + 1, 48 * count] {
+                    assert_eq!(turn(TO_SHORT, &bad, room), Err(28));
+                }
+                assert_eq!(turn(TO_SHORT, &bad, 32 * count - 1), Err(17));
+                assert_eq!(turn(TO_SHORT, &bad[1..], 0), Err(10));
+            }
+            // Any other byte comes with it, also one that compiling would refuse.
+            for byte in 1..32 {
+                let new = turn(TO_SHORT, &changed(byte, 255), 32 * count).unwrap();
+                assert_eq!(new[32 * place + byte], 255);
+            }
+        }
+    }
+}
+
+/// Any short list is turned long, and comes back unless an operation is above 2.
+#[test]
+fn there_and_back() {
+    for operation in 0..=255 {
+        let short = [vec![1; 32], vec![operation; 32], vec![2; 32]].concat();
+        let long = turn(TO_LONG, &short, 144).unwrap();
+        assert_eq!(long.len(), 144);
+        let back = turn(TO_SHORT, &long, 96);
+        assert_eq!(back, if operation > 2 { Err(28) } else { Ok(short) });
     }
 }

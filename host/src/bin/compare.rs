@@ -1,29 +1,32 @@
 //! Compares the library with the reference on random inputs, and the reference with the plain sheet
 //! and with pixel-by-pixel playing; the player that is fed in blocks also with the one that is not,
 //! the older chip's bytes with the other chip's values, and a point's colour with the bits of memory
-//! where it is said to stand; rings and strips with what the accepted samples say, drawn strips with
-//! their picture, and the library's rings of any numbers with what they tell themselves.
+//! where it is said to stand; lists in either form with what short ones compile to, turned lists with
+//! their records, and compiled and drawn in both forms; rings and strips with what the accepted samples
+//! say, drawn strips with their picture, and the library's rings of any numbers with what they tell
+//! themselves.
 //!
 //!     compare [--reference-only] [COUNT [SEED [FIRST]]]
 //!
 //! Inputs are numbered from FIRST (0); each is made from the seed and its number alone, so
 //! `compare 1 SEED NUMBER` repeats one. Ends with status 1 on a difference, or where a refusal
-//! number was never seen, or not by `feed`, `end`, the older chip's functions and those of the wear
-//! strip where they give it, or where something of `Seen`, on either chip, or of `Worn` was not.
+//! number was never seen, or not by `feed`, `end`, turning, the older chip's functions and those of the
+//! wear strip where they give it, or not in each form of a list by compiling and drawing; or where something
+//! of `Seen`, on either chip, of `Formed` or of `Worn` was not.
 
 use std::fmt::{Debug, Write};
 use std::process::ExitCode;
 use std::time::Instant;
 
-use host::answers::{Compiled, Glyph, Hour, Played, Player, Point, Settings, Strip};
+use host::answers::{Compiled, Drawn, Glyph, Hour, List, Played, Player, Point, Settings, Strip};
 use host::chart::{Samples, Told, GROUNDS};
-use host::inputs::{self, Asked, Drawing, Rng};
-use host::reference::MEMORY;
+use host::inputs::{self, Asked, Drawing, Rng, NO_FORMS};
+use host::reference::{LONG, MEMORY, SHORT};
 use host::serial::{self, BLOCK};
 use host::wear::{self, HOURS};
-use host::{literal, older, reference, sheet, unit, LINKED};
+use host::{forms, literal, older, records, reference, sheet, unit, LINKED};
 
-const FUNCTIONS: [&str; 12] = [
+const FUNCTIONS: [&str; 14] = [
     "compile",
     "play",
     "point",
@@ -36,6 +39,8 @@ const FUNCTIONS: [&str; 12] = [
     "hour",
     "strip",
     "glyph",
+    "to long",
+    "to short",
 ];
 const COMPILE: usize = 0;
 const PLAY: usize = 1;
@@ -49,24 +54,43 @@ const SAMPLE: usize = 8;
 const HOUR: usize = 9;
 const STRIP: usize = 10;
 const GLYPH: usize = 11;
+const TO_LONG: usize = 12;
+const TO_SHORT: usize = 13;
 
 /// The highest number of a refusal, and those that there are not.
 const HIGHEST: usize = 32;
-const FREE: std::ops::Range<usize> = 28..32;
+const FREE: std::ops::Range<usize> = 29..32;
 
 /// What some functions must have given; `feed` and `end`, repeated answers among it.
-const GIVEN: [(usize, &[usize]); 8] = [
+const GIVEN: [(usize, &[usize]); 9] = [
     (FEED, &[0, 18, 19, 20, 21, 22, 23, 32]),
     (END, &[0, 19, 20, 21, 22, 23]),
-    (OLDER_COMPILE, &[0, 1, 2, 3, 4, 5, 6, 7, 8, 9, 10, 11, 16, 17, 26]),
     (OLDER_POINT, &[0, 1, 2, 3, 4, 5, 18, 21, 24, 25]),
     (SAMPLE, &[0, 27]),
     (HOUR, &[0, 27]),
     (STRIP, &[0, 2, 11, 12, 17, 27]),
     (GLYPH, &[0, 27]),
+    (TO_LONG, &[0, 10, 17]),
+    (TO_SHORT, &[0, 10, 17, 28]),
 ];
 
-type Compile = fn(&[u8], &[u8], &[u16], &mut [u8]) -> Compiled;
+/// Functions that take a list, and what each must have given in either form.
+const LISTED: [(usize, &[usize]); 3] = [
+    (COMPILE, &[0, 1, 2, 3, 4, 5, 6, 7, 8, 9, 10, 11, 12, 13, 14, 15, 16, 17, 26]),
+    (DRAW, &[0, 1, 2, 3, 4, 5, 6, 7, 8, 9, 10, 11, 12, 13, 14, 15, 16, 17, 18, 26]),
+    (OLDER_COMPILE, &[0, 1, 2, 3, 4, 5, 6, 7, 8, 9, 10, 11, 16, 17, 26]),
+];
+
+/// Where a form is counted: 32, 48, and any number that is none.
+fn form_index(form: u32) -> usize {
+    match form {
+        SHORT => 0,
+        LONG => 1,
+        _ => 2,
+    }
+}
+
+type Compile = fn(u32, &[u8], &[u8], &[u16], &mut [u8]) -> Compiled;
 type Read = fn(&Settings, u32, u32, &[u8]) -> Point;
 
 /// A chip: the size of its memory, and its functions by the reference and by the library.
@@ -97,6 +121,36 @@ const OLDER: Chip = Chip {
     read_point: [older::read_point, unit::older::read_point],
     compiled: OLDER_COMPILE,
     read: OLDER_POINT,
+    index: 1,
+};
+
+type Turn = fn(&[u8], &mut [u8]) -> List;
+
+/// A way of turning a list: its forms, and its functions by the reference and by the library.
+struct Way {
+    name: &'static str,
+    from: u32,
+    to: u32,
+    turn: [Turn; 2],
+    /// Where its numbers are counted, and the rest.
+    turned: usize,
+    index: usize,
+}
+
+const THERE: Way = Way {
+    name: "to long",
+    from: SHORT,
+    to: LONG,
+    turn: [forms::to_long, unit::to_long],
+    turned: TO_LONG,
+    index: 0,
+};
+const BACK: Way = Way {
+    name: "to short",
+    from: LONG,
+    to: SHORT,
+    turn: [forms::to_short, unit::to_short],
+    turned: TO_SHORT,
     index: 1,
 };
 
@@ -139,6 +193,83 @@ impl Places {
             let step = DEPTHS[i].min(8) as usize;
             self.bits[i].iter().rev().step_by(step).copied().collect()
         })
+    }
+}
+
+/// What else must be seen of forms and turned lists.
+#[derive(Default)]
+struct Formed {
+    /// 10 for each of `NO_FORMS`, by the functions of `LISTED`.
+    no_forms: [[u64; NO_FORMS.len()]; LISTED.len()],
+    /// With such a number: a memory, and a screen, that is refused before it; 10 for an empty list; 10
+    /// where 11 holds too.
+    no_form: [u64; 4],
+    /// By form: 10 for a list that is whole in the other form alone; for 65 commands; where 11 holds too;
+    /// and lists of 64 commands that are not 10.
+    lengths: [[u64; 4]; 2],
+    /// 11 for a long list with a byte past 31 that is not zero.
+    eleven_past: u64,
+    /// By form: 12 for operations 3, 4, 5 and any above, and for nothing else.
+    operations: [[u64; 4]; 2],
+    /// 12 for one byte past 31 and nothing else, by the byte, and by the operation.
+    past: [u64; 16],
+    past_operation: [u64; 3],
+    /// By form: refused commands that are the first of their list, and that are not.
+    parts: [[u64; 2]; 2],
+    /// By way: turned lists of no command and of 64; into targets of their length, and longer ones.
+    turned: [[u64; 4]; 2],
+    /// By way: 10 for no whole records; for more than 64; with a short target too. 17 for a byte.
+    refused: [[u64; 4]; 2],
+    /// 28 for one byte past 31 and nothing else, by the byte; for an operation alone; for the first of
+    /// several commands alone, and for the last.
+    not_short: [u64; 16],
+    not_short_for: [u64; 3],
+    /// 10 and 17 where 28 holds too.
+    before_28: [u64; 2],
+    /// Lists turned there and back, and back and there; and long ones that cannot come back.
+    trips: [u64; 3],
+    /// Lists beside the same turned long that are accepted with commands, and refused with 12 to 17 and
+    /// for the screen; and that are drawn.
+    both: [u64; 8],
+    drawn: u64,
+}
+
+impl Formed {
+    /// The counts with their names.
+    fn rows(&self) -> Vec<(&'static str, Vec<u64>)> {
+        vec![
+            (
+                "10 for no form 0, 31, 33, 47, 49, 96, 2^32 - 1 by compile",
+                self.no_forms[0].to_vec(),
+            ),
+            ("the same by draw", self.no_forms[1].to_vec()),
+            ("the same by compile06", self.no_forms[2].to_vec()),
+            (
+                "no form: after 18, a refused screen; of an empty list; before 11",
+                self.no_form.to_vec(),
+            ),
+            ("short: 10 by the other form, for 65, before 11; 64", self.lengths[0].to_vec()),
+            ("long: the same", self.lengths[1].to_vec()),
+            ("11 before a byte past 31", vec![self.eleven_past]),
+            ("short: 12 for operations 3, 4, 5, above alone", self.operations[0].to_vec()),
+            ("long: the same", self.operations[1].to_vec()),
+            ("12 for bytes 32 to 47 alone", self.past.to_vec()),
+            ("12 for one of them by operation", self.past_operation.to_vec()),
+            ("short: refused commands, first and later", self.parts[0].to_vec()),
+            ("long: the same", self.parts[1].to_vec()),
+            ("to long: no command, 64; exact target, longer", self.turned[0].to_vec()),
+            ("to short: the same", self.turned[1].to_vec()),
+            ("to long: 10 for no whole records, over 64, before 17; 17 for a byte", {
+                self.refused[0].to_vec()
+            }),
+            ("to short: the same", self.refused[1].to_vec()),
+            ("28 for bytes 32 to 47 alone", self.not_short.to_vec()),
+            ("28 for an operation, the first command, the last alone", self.not_short_for.to_vec()),
+            ("before 28: 10, 17", self.before_28.to_vec()),
+            ("there and back, back and there, no way back", self.trips.to_vec()),
+            ("both forms: accepted, 12 to 17, refused screens", self.both.to_vec()),
+            ("both forms drawn", vec![self.drawn]),
+        ]
     }
 }
 
@@ -217,6 +348,9 @@ struct Rings {
 /// The list and the words of a strip, or its number.
 type Made = Result<(Vec<u8>, Vec<u16>), u32>;
 
+/// A list in its other form, or the number of its refusal.
+type Turned = Result<Vec<u8>, u32>;
+
 /// A difference, in words and with the input.
 type Checked = Result<(), String>;
 
@@ -230,9 +364,12 @@ struct Bench {
     third: Vec<u8>,
     /// How often each function gave each number.
     seen: [[u64; HIGHEST + 1]; FUNCTIONS.len()],
+    /// How often those of `LISTED` did, by the list's form: 32, 48, any other number.
+    by_form: [[[u64; HIGHEST + 1]; 3]; LISTED.len()],
     /// How often the rest was seen of each chip.
     chips: [Seen; 2],
-    /// And of rings and strips.
+    /// And of forms, and of rings and strips.
+    formed: Formed,
     worn: Worn,
 }
 
@@ -278,7 +415,8 @@ fn same_bytes(what: &str, ours: &[u8], theirs: &[u8], input: impl Fn() -> String
 
 fn drawing_text(drawing: &Drawing) -> String {
     format!(
-        "  screen: {}\n  list: {}\n  words (bytes): {}\n  stream buffer: {} bytes",
+        "  form: {}\n  screen: {}\n  list: {}\n  words (bytes): {}\n  stream buffer: {} bytes",
+        drawing.form,
         hex(&drawing.screen),
         hex(&drawing.list),
         hex_words(&drawing.words),
@@ -307,9 +445,9 @@ fn made(told: &Told, asked: &Asked) -> Made {
 /// A stream, compiled or foreign, whole or changed.
 fn any_stream(rng: &mut Rng) -> Vec<u8> {
     let mut stream = if rng.one_in(3) {
-        let Drawing { screen, list, words, room } = inputs::accepted(rng);
+        let Drawing { form, screen, list, words, room } = inputs::accepted(rng);
         let mut stream = vec![0; room];
-        let answer = reference::compile(&screen, &list, &words, &mut stream);
+        let answer = reference::compile(form, &screen, &list, &words, &mut stream);
         stream.truncate(answer.length as usize);
         stream
     } else {
@@ -374,7 +512,9 @@ impl Bench {
             stream: Default::default(),
             third: Vec::new(),
             seen: [[0; HIGHEST + 1]; FUNCTIONS.len()],
+            by_form: [[[0; HIGHEST + 1]; 3]; LISTED.len()],
             chips: Default::default(),
+            formed: Formed::default(),
             worn: Worn::default(),
         }
     }
@@ -382,11 +522,15 @@ impl Bench {
     /// The same random bytes in both memories, from somewhere in the pool.
     fn prepare_memory(&mut self, rng: &mut Rng, length: usize) -> usize {
         let at = rng.below(MEMORY as u64) as usize;
+        self.prepare_memory_at(at, length);
+        at
+    }
+
+    fn prepare_memory_at(&mut self, at: usize, length: usize) {
         for memory in &mut self.memory {
             memory.clear();
             memory.extend_from_slice(&self.pool[at..at + length]);
         }
-        at
     }
 
     fn prepare_stream(&mut self, room: usize) {
@@ -408,7 +552,15 @@ impl Bench {
 
     /// Counts a number of compiling or drawing; 26 is main's where the screen gets it without its
     /// window too.
-    fn count(&mut self, chip: &Chip, function: usize, number: u32, screen: &[u8]) {
+    fn count(
+        &mut self,
+        chip: &Chip,
+        function: usize,
+        drawing: &Drawing,
+        (number, place): (u32, u64),
+    ) {
+        self.count_form(chip, function, drawing, (number, place));
+        let screen = &drawing.screen;
         self.seen[function][number as usize] += 1;
         let seen = &mut self.chips[chip.index];
         match number {
@@ -418,8 +570,74 @@ impl Bench {
                 alone[2] = 0;
                 alone[12..24].fill(0);
                 alone[26..28].fill(0);
-                let main = chip.compile[0](&alone, &[], &[], &mut [0; 48]).number == 26;
+                let main = chip.compile[0](SHORT, &alone, &[], &[], &mut [0; 48]).number == 26;
                 seen.lengths[usize::from(!main)] += 1;
+            }
+            _ => {}
+        }
+    }
+
+    /// Counts what a number of compiling or drawing says of the list's form.
+    fn count_form(
+        &mut self,
+        chip: &Chip,
+        function: usize,
+        drawing: &Drawing,
+        (number, place): (u32, u64),
+    ) {
+        let Drawing { form, screen, list, .. } = drawing;
+        let listed = LISTED.iter().position(|&(of, _)| of == function).unwrap();
+        let index = form_index(*form);
+        self.by_form[listed][index][number as usize] += 1;
+        let formed = &mut self.formed;
+        let eleven = number == 10 && !list.is_empty() && (chip.index == 1 || screen[0] < 8);
+        if index == 2 {
+            if let (10, Some(i)) = (number, NO_FORMS.iter().position(|no_form| no_form == form)) {
+                formed.no_forms[listed][i] += 1;
+            }
+            let [memory, screens, empty, before] = &mut formed.no_form;
+            *memory += u64::from(number == 18);
+            *screens += u64::from(!matches!(number, 10 | 18));
+            *empty += u64::from(number == 10 && list.is_empty());
+            *before += u64::from(eleven);
+            return;
+        }
+
+        let (size, other) = (*form as usize, if *form == SHORT { 48 } else { 32 });
+        let [by_other, over, before, most] = &mut formed.lengths[index];
+        let other_alone = list.len() % size != 0 && list.len() % other == 0;
+        *by_other += u64::from(number == 10 && other_alone && list.len() <= 64 * other);
+        *over += u64::from(number == 10 && list.len() == 65 * size);
+        *before += u64::from(eleven);
+        *most += u64::from(number == 0 && list.len() == 64 * size);
+        if number == 11 {
+            let past = |part: &[u8]| part[32..].iter().any(|&byte| byte != 0);
+            formed.eleven_past += u64::from(list.chunks(size).any(past));
+        }
+        if (12..=15).contains(&number) {
+            formed.parts[index][usize::from(place > 0)] += 1;
+            let part = &list[size * place as usize..][..size];
+            self.count_part(index, screen, part, number);
+        }
+    }
+
+    /// Counts what a command is refused for alone: as a short one, put right, it is not refused with 12.
+    fn count_part(&mut self, index: usize, screen: &[u8], part: &[u8], number: u32) {
+        let formed = &mut self.formed;
+        let (old, past) = part.split_at(32);
+        let right = |operation: u8| {
+            let old = [&[operation], &old[1..]].concat();
+            reference::compile(SHORT, screen, &old, &[], &mut []).number != 12
+        };
+        let operation = old[0];
+        let mut not_zero = (0..past.len()).filter(|&i| past[i] != 0);
+        match (not_zero.next(), not_zero.next()) {
+            (Some(i), None) if number == 12 && right(operation) => {
+                formed.past[i] += 1;
+                formed.past_operation[usize::from(operation)] += 1;
+            }
+            (None, None) if operation > 2 && (0..=2).any(right) => {
+                formed.operations[index][usize::from(operation - 3).min(3)] += 1;
             }
             _ => {}
         }
@@ -428,17 +646,21 @@ impl Bench {
     /// Compiles by both.
     fn compile_on(&mut self, chip: &Chip, drawing: &Drawing) -> Result<Compiled, String> {
         self.prepare_stream(drawing.room);
-        let Drawing { screen, list, words, .. } = drawing;
+        let &Drawing { form, ref screen, ref list, ref words, room } = drawing;
         let input = || format!("  {}\n{}", chip.name, drawing_text(drawing));
         let [stream, other] = &mut self.stream;
-        let answer = chip.compile[0](screen, list, words, stream);
-        let theirs = chip.compile[1](screen, list, words, other);
+        let answer = chip.compile[0](form, screen, list, words, stream);
+        let theirs = chip.compile[1](form, screen, list, words, other);
         same("compile", answer, theirs, input)?;
         same_bytes("compile's stream", stream, other, input)?;
+        let told = records::told(form, list, |list| {
+            chip.compile[0](SHORT, screen, list, words, &mut vec![0; room])
+        });
+        same("compile, as short lists say", answer, told, input)?;
         // A refusal leaves the buffer, acceptance the bytes past the stream.
         let length = answer.length as usize;
         same_bytes("past the stream", &stream[length..], &self.pool[length..drawing.room], input)?;
-        self.count(chip, chip.compiled, answer.number, screen);
+        self.count(chip, chip.compiled, drawing, (answer.number, answer.place));
         Ok(answer)
     }
 
@@ -458,11 +680,12 @@ impl Bench {
         }
         self.third.clear();
         self.third.extend_from_slice(&self.pool[at..at + MEMORY]);
-        sheet::draw(&drawing.screen, &drawing.list, &drawing.words, &mut self.third);
+        let Drawing { form, screen, list, words, .. } = &drawing;
+        sheet::draw(*form, screen, list, words, &mut self.third);
         same_bytes("the sheet", &self.memory[0], &self.third, || drawing_text(&drawing))?;
         // The six screen records stand first in the stream.
         let values = record_values(&self.stream[0]);
-        self.against_sheet(rng, &NEWER, &drawing, settings(answer, &drawing.screen, values))
+        self.against_sheet(rng, &NEWER, &drawing, settings(answer, screen, values))
     }
 
     /// One screen of the older chip: compiled, its bytes put together, and read.
@@ -479,7 +702,7 @@ impl Bench {
         same("values", older::values(&bytes).values, values, input)?;
         // They are the other chip's, which holds the screen too.
         let mut stream = [0; 48];
-        reference::compile(screen, &[], &[], &mut stream);
+        reference::compile(SHORT, screen, &[], &[], &mut stream);
         same("the screen's values", record_values(&stream), values, input)?;
         // Without a list the sheet is the memory.
         let at = self.prepare_memory(rng, older::MEMORY);
@@ -579,20 +802,171 @@ impl Bench {
     /// One list, compiled and played in one call.
     fn draw(&mut self, rng: &mut Rng) -> Checked {
         let drawing = self.drawing(rng);
+        let (at, length) = (rng.below(MEMORY as u64) as usize, memory_length(rng, &NEWER));
+        self.draw_on(&drawing, at, length).map(|_| ())
+    }
+
+    /// Draws by both, over memories of a length that begin as the pool from `at`.
+    fn draw_on(&mut self, drawing: &Drawing, at: usize, length: usize) -> Result<Drawn, String> {
         self.prepare_stream(drawing.room);
-        let length = memory_length(rng, &NEWER);
-        let at = self.prepare_memory(rng, length);
-        let Drawing { screen, list, words, .. } = &drawing;
+        self.prepare_memory_at(at, length);
+        let &Drawing { form, ref screen, ref list, ref words, .. } = drawing;
         let input =
-            || format!("{}\n  memory: {length} bytes, pool from {at}", drawing_text(&drawing));
+            || format!("{}\n  memory: {length} bytes, pool from {at}", drawing_text(drawing));
         let [stream, other_stream] = &mut self.stream;
         let [memory, other_memory] = &mut self.memory;
-        let answer = reference::draw(screen, list, words, stream, memory);
-        let theirs = unit::draw(screen, list, words, other_stream, other_memory);
+        let answer = reference::draw(form, screen, list, words, stream, memory);
+        let theirs = unit::draw(form, screen, list, words, other_stream, other_memory);
         same("draw", answer, theirs, input)?;
         same_bytes("draw's stream", stream, other_stream, input)?;
         same_bytes("draw's memory", memory, other_memory, input)?;
-        self.count(&NEWER, DRAW, answer.number, screen);
+        self.count(&NEWER, DRAW, drawing, (answer.number, answer.place));
+        Ok(answer)
+    }
+
+    /// Turns a list by both, against what its records say: the answer, and every byte of the target. Gives
+    /// the turned list, or the number.
+    fn turn_by(
+        &mut self,
+        rng: &mut Rng,
+        way: &Way,
+        list: &[u8],
+        room: usize,
+    ) -> Result<Turned, String> {
+        let name = way.name;
+        let at = rng.below(MEMORY as u64) as usize;
+        let input = || format!("  {name}, {room} bytes, pool from {at}\n  list: {}", hex(list));
+        let turned = records::turned(way.from, way.to, list, room);
+        let mut held = self.pool[at..at + room].to_vec();
+        let want = match &turned {
+            Ok(new) => {
+                held[..new.len()].copy_from_slice(new);
+                List { number: 0, length: new.len() as u64 }
+            }
+            Err(number) => List { number: *number, length: 0 },
+        };
+        for (side, turn) in ["reference", "library"].into_iter().zip(way.turn) {
+            let mut target = self.pool[at..at + room].to_vec();
+            let answer = turn(list, &mut target);
+            same(&format!("turned by the {side}, as records say"), want, answer, input)?;
+            same_bytes(&format!("target of the {side}"), &held, &target, input)?;
+        }
+        self.seen[way.turned][want.number as usize] += 1;
+        Ok(turned)
+    }
+
+    /// One list, turned into its other form and, where it is, back again.
+    fn turn(&mut self, rng: &mut Rng) -> Checked {
+        let (way, other) = rng.pick(&[(&THERE, &BACK), (&BACK, &THERE)]);
+        let (list, room) = inputs::turning(rng, way.from);
+        let turned = self.turn_by(rng, way, &list, room)?;
+        self.count_turn(way, &list, room, &turned);
+        let Ok(new) = turned else { return Ok(()) };
+        let room = list.len() + rng.below(40) as usize;
+        let again = self.turn_by(rng, other, &new, room)?;
+        let above = records::any_above(way.from, &list);
+        self.formed.trips[if above { 2 } else { way.index }] += 1;
+        let want = if above { Err(28) } else { Ok(list.clone()) };
+        same("turned and turned again", want, again, || format!("  list: {}", hex(&list)))
+    }
+
+    fn count_turn(&mut self, way: &Way, list: &[u8], room: usize, turned: &Turned) {
+        let formed = &mut self.formed;
+        let (from, to) = (way.from as usize, way.to as usize);
+        let (count, over) = (list.len() / from, list.len() % from);
+        let short = room < count * to;
+        // The commands that have no short form: what is not zero past their byte 31, and the operation.
+        let long = |part: &&[u8]| part[0] > 2 || part[32..].iter().any(|&byte| byte != 0);
+        let stay: Vec<&[u8]> = match way.index {
+            0 => Vec::new(),
+            _ => list.chunks_exact(from).filter(long).collect(),
+        };
+        match turned {
+            Ok(_) => {
+                let [none, most, exact, longer] = &mut formed.turned[way.index];
+                *none += u64::from(count == 0);
+                *most += u64::from(count == 64);
+                *exact += u64::from(room == count * to);
+                *longer += u64::from(room > count * to);
+            }
+            Err(10) => {
+                let [no_whole, too_many, before, _] = &mut formed.refused[way.index];
+                *no_whole += u64::from(over != 0 && count < 64);
+                *too_many += u64::from(over == 0);
+                *before += u64::from(short);
+                formed.before_28[0] += u64::from(!stay.is_empty());
+            }
+            Err(17) => {
+                formed.refused[way.index][3] += u64::from(room + 1 == count * to);
+                formed.before_28[1] += u64::from(!stay.is_empty());
+            }
+            Err(_) => {
+                let &[part] = &stay[..] else { return };
+                let (first, last) = (&list[..from], &list[list.len() - from..]);
+                let [operation, at_first, at_last] = &mut formed.not_short_for;
+                *at_first += u64::from(count > 1 && std::ptr::eq(part, first));
+                *at_last += u64::from(count > 1 && std::ptr::eq(part, last));
+                let mut not_zero = (0..16).filter(|&i| part[32 + i] != 0);
+                match (part[0] > 2, not_zero.next(), not_zero.next()) {
+                    (true, None, _) => *operation += 1,
+                    (false, Some(i), None) => formed.not_short[i] += 1,
+                    _ => {}
+                }
+            }
+        }
+    }
+
+    /// One short list, whole or damaged, beside the same turned long: compiled for both chips, and drawn.
+    fn both_forms(&mut self, rng: &mut Rng) -> Checked {
+        let mut short = inputs::accepted_in(rng, SHORT);
+        if rng.one_in(2) {
+            inputs::damage(rng, &mut short);
+            short.form = SHORT;
+        }
+        let room = 48 * (short.list.len() / 32) + rng.below(100) as usize;
+        let turned = self.turn_by(rng, &THERE, &short.list, room)?;
+        let above = records::any_above(SHORT, &short.list);
+        let (Ok(list), false) = (turned, above) else { return Ok(()) };
+        let Drawing { screen, words, room, .. } = &short;
+        let (screen, words, room) = (screen.clone(), words.clone(), *room);
+        let long = Drawing { form: LONG, screen, list, words, room };
+        let input = || drawing_text(&long);
+
+        for chip in [NEWER, OLDER] {
+            let answer = self.compile_on(&chip, &short)?;
+            let stream = self.stream[1].clone();
+            let other = self.compile_on(&chip, &long)?;
+            let want = match answer.part_length {
+                0 => answer,
+                _ => Compiled { part_at: 48 * answer.place, part_length: 48, ..answer },
+            };
+            same("compiled in the long form", want, other, input)?;
+            same_bytes("the long form's stream", &stream, &self.stream[1], input)?;
+            let part = |list: &[u8], answer: Compiled| {
+                let (at, length) = (answer.part_at as usize, answer.part_length as usize);
+                list[at..at + length].to_vec()
+            };
+            let mut want = part(&short.list, answer);
+            want.resize(other.part_length as usize, 0);
+            same_bytes("the long form's part", &want, &part(&long.list, other), input)?;
+            let both = &mut self.formed.both;
+            match answer.number {
+                _ if chip.index != NEWER.index => {}
+                0 => both[0] += u64::from(!short.list.is_empty()),
+                number @ 12..=17 => both[number as usize - 11] += 1,
+                1..=9 | 26 => both[7] += 1,
+                _ => {}
+            }
+        }
+
+        let (at, length) = (rng.below(MEMORY as u64) as usize, memory_length(rng, &NEWER));
+        let answer = self.draw_on(&short, at, length)?;
+        let (stream, memory) = (self.stream[1].clone(), self.memory[1].clone());
+        let other = self.draw_on(&long, at, length)?;
+        same("drawn in the long form", answer, other, input)?;
+        same_bytes("the drawn long form's stream", &stream, &self.stream[1], input)?;
+        same_bytes("the drawn long form's memory", &memory, &self.memory[1], input)?;
+        self.formed.drawn += u64::from(answer.number == 0 && !short.list.is_empty());
         Ok(())
     }
 
@@ -889,7 +1263,7 @@ impl Bench {
         match (made, screen) {
             (Ok((list, words)), Some(screen)) => {
                 let room = 48 + 72 * list.len() / 32 + 8 * words.len();
-                let drawing = Drawing { screen, list, words, room };
+                let drawing = Drawing { form: SHORT, screen, list, words, room };
                 self.picture(rng, &told, &asked, &drawing, input)
             }
             _ => Ok(()),
@@ -973,7 +1347,7 @@ impl Bench {
         drawing: &Drawing,
         input: impl Fn() -> String,
     ) -> Checked {
-        let Drawing { screen, list, words, .. } = drawing;
+        let &Drawing { form: list_form, ref screen, ref list, ref words, .. } = drawing;
         let input = || format!("{}\n{}", input(), drawing_text(drawing));
         let answer = self.compile_on(&NEWER, drawing)?;
         same("a strip's list compiles", answer.number, 0, input)?;
@@ -982,7 +1356,7 @@ impl Bench {
         same("a strip's stream plays", number, 0, input)?;
         self.third.clear();
         self.third.extend_from_slice(&self.pool[at..at + MEMORY]);
-        sheet::draw(screen, list, words, &mut self.third);
+        sheet::draw(list_form, screen, list, words, &mut self.third);
         same_bytes("a strip on the sheet", &self.memory[0], &self.third, input)?;
         let settings = settings(answer, screen, record_values(&self.stream[0]));
         self.against_sheet(rng, &NEWER, drawing, settings)?;
@@ -1100,19 +1474,21 @@ impl Bench {
     }
 
     fn input(&mut self, rng: &mut Rng) -> Checked {
-        match rng.below(24) {
-            0..=3 => self.compile(rng),
-            4 => self.draw(rng),
-            5..=7 => self.stream(rng),
-            8..=10 => self.serial(rng),
-            11 => self.points(rng, &NEWER),
-            12..=15 => self.older(rng),
-            16 => self.points(rng, &OLDER),
-            17 => self.values(rng),
-            18 => self.ring(rng),
-            19..=21 => self.strip(rng),
-            22 => self.glyphs(rng),
-            _ => self.any_ring(rng),
+        match rng.below(32) {
+            0..=4 => self.compile(rng),
+            5..=7 => self.draw(rng),
+            8..=10 => self.stream(rng),
+            11..=13 => self.serial(rng),
+            14 => self.points(rng, &NEWER),
+            15..=18 => self.older(rng),
+            19 => self.points(rng, &OLDER),
+            20 => self.values(rng),
+            21 => self.ring(rng),
+            22..=24 => self.strip(rng),
+            25 => self.glyphs(rng),
+            26 => self.any_ring(rng),
+            27..=29 => self.turn(rng),
+            _ => self.both_forms(rng),
         }
     }
 }
@@ -1168,6 +1544,21 @@ fn main() -> ExitCode {
             unseen.push(number);
         }
     }
+    report += &format!(
+        "\nby the list's form: 32, 48, none\nnumber{}\n",
+        LISTED.map(|(function, _)| format!("{:>30}", FUNCTIONS[function])).concat()
+    );
+    for number in (0..=HIGHEST).filter(|number| LISTED.iter().any(|(_, of)| of.contains(number))) {
+        report += &format!("{number:>6}");
+        for ((_, numbers), forms) in LISTED.iter().zip(&bench.by_form) {
+            let row = forms.map(|seen| seen[number]);
+            report += &row.map(|times| format!("{times:>10}")).concat();
+            if numbers.contains(&number) && row[..2].contains(&0) && !unseen.contains(&number) {
+                unseen.push(number);
+            }
+        }
+        report += "\n";
+    }
     println!("{report}");
     let mut missed = !unseen.is_empty();
     for (chip, seen) in [NEWER, OLDER].iter().zip(&bench.chips) {
@@ -1182,6 +1573,11 @@ fn main() -> ExitCode {
             println!("    at depth 8 in a byte of odd address {odd}");
             missed |= odd == 0 || bits.iter().any(|bits| bits.contains(&0));
         }
+    }
+    println!("Forms of a list:");
+    for (what, counts) in bench.formed.rows() {
+        println!("  {what} {counts:?}");
+        missed |= counts.contains(&0);
     }
     println!("Rings and strips:");
     for (what, counts) in bench.worn.rows() {

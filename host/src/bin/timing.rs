@@ -9,12 +9,12 @@
 use std::hint::black_box;
 use std::time::Instant;
 
-use host::answers::{Form, Played, Player, Point, Settings};
+use host::answers::{Form, List, Played, Player, Point, Settings};
 use host::inputs::Rng;
-use host::reference::MEMORY;
+use host::reference::{LONG, MEMORY, SHORT};
 use host::serial::{self, BLOCK};
 use host::wear::{self, HOURS};
-use host::{reference, unit, LINKED};
+use host::{forms, reference, unit, LINKED};
 
 /// memset or memmove on a memory.
 type Plain<'a> = Option<&'a dyn Fn(&mut [u8])>;
@@ -84,7 +84,7 @@ fn screen(depth: u8, width: u16, height: u16) -> Vec<u8> {
     record
 }
 
-/// A command on main: operation, code, then x, y, width, height, source x, source y, colour.
+/// A short command on main: operation, code, then x, y, width, height, source x, source y, colour.
 fn command(operation: u8, code: u8, numbers: [u16; 7]) -> Vec<u8> {
     let mut part = vec![operation, 0, code, 0];
     part.extend(numbers.iter().flat_map(|number| number.to_le_bytes()));
@@ -92,13 +92,19 @@ fn command(operation: u8, code: u8, numbers: [u16; 7]) -> Vec<u8> {
     part
 }
 
+/// A short list's stream.
 fn compiled(screen: &[u8], list: &[u8], words: &[u16]) -> Vec<u8> {
-    let mut stream = vec![0; 48 + 72 * list.len() / 32 + 8 * words.len()];
-    let answer = reference::compile(screen, list, words, &mut stream);
+    compiled_in(SHORT, screen, list, words)
+}
+
+fn compiled_in(form: u32, screen: &[u8], list: &[u8], words: &[u16]) -> Vec<u8> {
+    let mut stream = vec![0; 48 + 72 * (list.len() / form as usize) + 8 * words.len()];
+    let answer = reference::compile(form, screen, list, words, &mut stream);
     assert_eq!((answer.number, answer.length), (0, stream.len() as u64));
     stream
 }
 
+type Turn = fn(&[u8], &mut [u8]) -> List;
 type Feed = fn(&mut Player, &[u8], &mut [u8]) -> Played;
 type End = fn(&mut Player) -> Played;
 
@@ -129,26 +135,55 @@ impl Timing {
         (0..MEMORY).map(|_| self.rng.any() as u8).collect()
     }
 
-    fn compile(&mut self, what: &str, of: Of, screen: &[u8], list: &[u8], words: &[u16]) {
-        let mut stream = compiled(screen, list, words);
+    fn compile(
+        &mut self,
+        what: &str,
+        of: Of,
+        screen: &[u8],
+        (form, list): (u32, &[u8]),
+        words: &[u16],
+    ) {
+        let mut stream = compiled_in(form, screen, list, words);
         let mut other = stream.clone();
         let amount = match of {
-            Of::Commands => list.len() / 32,
+            Of::Commands => list.len() / form as usize,
             _ => stream.len(),
         };
         let [ours, theirs] = best(
             self.rounds,
             &mut [
                 &mut || {
-                    black_box(reference::compile(black_box(screen), list, words, &mut stream));
+                    let screen = black_box(screen);
+                    black_box(reference::compile(form, screen, list, words, &mut stream));
                 },
                 &mut || {
-                    black_box(unit::compile(black_box(screen), list, words, &mut other));
+                    black_box(unit::compile(form, black_box(screen), list, words, &mut other));
                 },
             ],
         );
         assert_eq!(stream, other);
         row(what, of, amount, None, ours, theirs);
+    }
+
+    /// Turns a list into one of so many bytes.
+    fn turn(&mut self, what: &str, [ours, theirs]: [Turn; 2], list: &[u8], length: usize) {
+        let (mut target, mut other) = (vec![0; length], vec![0; length]);
+        let answer = ours(list, &mut target);
+        assert_eq!(answer, List { number: 0, length: length as u64 });
+        assert_eq!(answer, theirs(list, &mut other));
+        let [ours, theirs] = best(
+            self.rounds,
+            &mut [
+                &mut || {
+                    black_box(ours(black_box(list), black_box(&mut target)));
+                },
+                &mut || {
+                    black_box(theirs(black_box(list), black_box(&mut other)));
+                },
+            ],
+        );
+        assert_eq!(target, other);
+        row(what, Of::Commands, list.len().max(length) / LONG as usize, None, ours, theirs);
     }
 
     /// Plays commands that cover `bytes` bytes, with the plain form of the same beside it.
@@ -330,16 +365,25 @@ fn main() {
             _ => command(1, 0xC, [4 * i, 3 * i, 40, 30, 3 * i, 4 * i, 0]),
         })
         .collect();
-    timing.compile("compile 64 fills and moves", Of::Commands, &bytes, &mixed, &[]);
+    let mut long = vec![0; 64 * 48];
+    forms::to_long(&mixed, &mut long);
+    let what = "compile 64 fills and moves";
+    timing.compile(what, Of::Commands, &bytes, (SHORT, &mixed), &[]);
+    let what = "compile 64 fills and moves, long form";
+    timing.compile(what, Of::Commands, &bytes, (LONG, &long), &[]);
     let pixels = timing.rng.words(248 * 496);
     let write = command(2, 0xC, [8, 8, 496, 496, 0, 0, 0]);
     timing.compile(
         "compile a write of 123,008 words (stream bytes)",
         Of::Bytes,
         &bytes,
-        &write,
+        (SHORT, &write),
         &pixels,
     );
+    let (to_long, to_short) =
+        ([forms::to_long as Turn, unit::to_long], [forms::to_short as Turn, unit::to_short]);
+    timing.turn("turn 64 commands long", to_long, &mixed, long.len());
+    timing.turn("turn 64 commands short", to_short, &long, mixed.len());
 
     const RECTANGLE: usize = 496 * 496;
     const HALF: usize = 496 * 248;
