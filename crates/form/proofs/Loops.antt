@@ -3,6 +3,7 @@ use Prim.Native.Nat.{ℕ, zero, suc, _+_, _-_, _*_, _/_, _<_, _≤_}
 use mathlib.Core.Path.{_≡_, refl, sym, ap, _∙_}
 use mathlib.Core.Bool.{Bool, true, false, not, _||_}
 use mathlib.Core.List.{List, [], _∷_, _++_, map, append-nil}
+use mathlib.Core.Logic.{⊎-elim}
 use native.Mathlib.Nat.{add-zero, zero-add, suc-add, zero-mul, sub-zero, add-sub-cancel-left, mul-le-mul-right, suc-mul}
 use native.Mathlib.Numerals.{add-one}
 use native.Mathlib.Omega.{arith}
@@ -13,8 +14,8 @@ use Rattle.record.specs.Bytes.{byteAt, allZero}
 use Rattle.record.specs.Lists.{partsFrom, partsOf}
 use Rattle.record.proofs.Lists.{parts-step, parts-end}
 use Rattle.record.proofs.Stores.{sets-append, sets-over}
-use Rattle.command.specs.Task.{shortForm, isForm}
-use Rattle.command.proofs.Forms.{form-least, length-part}
+use Rattle.command.specs.Task.{shortForm, longForm, isForm}
+use Rattle.command.proofs.Forms.{form-is, form-least, length-part}
 use Rattle.form.specs.Turn.{recordIn, listOf, turnedList, staysLong, anyStaysLong}
 use Rattle.form.proofs.Lists.{length-in-form}
 
@@ -100,8 +101,17 @@ pub all-stored : (l b : List ℕ) → length b ≡ length l → sets l 0 b ≡ b
 all-stored l b h = sets-over l b (omega (arith, h)) ∙ ap (λ (x : List ℕ). b ++ x) (drop-of-length-le l {i = length b} (omega (arith, h))) ∙ append-nil b
 
 -- one: its 32 bytes, and zeros behind them
-pub record-stored : (l b : List ℕ) (at form : ℕ) → shortForm ≤ length b → {l1 l2 : List ℕ} → l1 ≡ sets l at (take shortForm b) → l2 ≡ sets l1 (at + shortForm) (replicate (form - shortForm) 0) → l2 ≡ sets l at (recordIn form b)
+record-stored : (l b : List ℕ) (at form : ℕ) → shortForm ≤ length b → {l1 l2 : List ℕ} → l1 ≡ sets l at (take shortForm b) → l2 ≡ sets l1 (at + shortForm) (replicate (form - shortForm) 0) → l2 ≡ sets l at (recordIn form b)
 record-stored l b at form h e f = f ∙ (rw (e, sets-append, length-take-le shortForm b h))
+
+-- a short record is stored with its 32 bytes, a long one with 16 zeros behind them
+pub short-stored : (l b : List ℕ) (at form : ℕ) → isForm form ≡ true → (form ≡ longForm → ⊥) → {l1 : List ℕ} → l1 ≡ sets l at (take shortForm b) → l1 ≡ sets l at (recordIn form b)
+short-stored l b at form f h e =
+    let k : form ≡ shortForm = ⊎-elim (λ p. p) (λ p. absurd (h p)) (form-is form f) in
+    rw k (e ∙ ap (λ (x : List ℕ). sets l at x) (sym (append-nil (take shortForm b))))
+
+pub long-stored : (l b : List ℕ) (at form : ℕ) → form ≡ longForm → shortForm ≤ length b → {l1 l2 : List ℕ} → l1 ≡ sets l at (take shortForm b) → l2 ≡ sets l1 (at + shortForm) (replicate 16 0) → l2 ≡ sets l at (recordIn form b)
+long-stored l b at form k h e f = rw k (record-stored l b at longForm h e f)
 
 -- part i of a list, as the code lends it on, has the bytes of a short record
 pub part-least : (size : ℕ) (list : List ℕ) (i : ℕ) → isForm size ≡ true → i < length list / size → shortForm ≤ length (take (i * size + size - i * size) (drop (i * size) list))

@@ -72,7 +72,9 @@ fn put_record(b: &[u8], form: u32, target: &mut [u8], at: usize)
     let mut first = [0u8; 32];
     put_bytes(&mut first, 0, &b[0..32]);
     put_bytes(target, at, &first);
-    put_zeros(target, at + 32, form as usize - 32);
+    if form == 48 {
+        put_zeros(target, at + 32, 16);
+    }
 }
 
 // Stores a list in form `from`, turned into form `to`, at the target's start.

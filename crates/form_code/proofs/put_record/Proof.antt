@@ -5,7 +5,7 @@ use lib.ListN.{length, take, replicate}
 use lib.Seq.{sets, length-take-le}
 use Prim.Native.Nat.{ℕ}
 use Rattle.command.proofs.Forms.{form-least}
-use Rattle.form.proofs.Loops.{all-stored, record-stored}
+use Rattle.form.proofs.Loops.{all-stored, short-stored, long-stored}
 use borrow.Author.Needs.{needs}
 use Rattle.form_code.proofs.put_record.Statement.{statement}
 use Rattle.form_code.proofs.put_record.Tie as tie
@@ -38,17 +38,20 @@ put-bytes-requires-2 c κs = let p = c .before .before .before .before .before .
 add-put-zeros : tie.Need-add-put-zeros
 add-put-zeros c = search needs
 
-sub-put-zeros : tie.Need-sub-put-zeros
-sub-put-zeros c = let p = c .before .before .before .before .before .before .before .before .before .before .before .before in omega (arith, form-least (p .args .form) (p .pre .0))
-
 put-zeros-requires : tie.Need-put-zeros-requires
-put-zeros-requires c κs = let p = c .before .before .before .before .before .before .before .before .before .before .before .before in omega (arith, form-least (p .args .form) (p .pre .0), p .pre .1 .1)
+put-zeros-requires c κs = let p = c .before .before .before .before .before .before .before .before .before .before .before .before .before in omega (arith, c .before .if1 .taken, p .pre .1 .1)
 
 same-length : tie.Need-same-length
 same-length c = search needs
 
 returns : tie.Need-returns
-returns c = let p = c .before .before .before .before .before .before .before .before .before .before .before .before .before .before .before in record-stored (p .args .target .now) (p .args .b .now) (p .args .at) (p .args .form) (p .pre .1 .0) (c .before .before .before .before .before .before .put-bytes2 .ensures ∙ ap (λ (l : List ℕ). sets (p .args .target .now) (p .args .at) l) (first-is (c .before .before .before .before .before .before .before .before .before .before))) (c .before .before .put-zeros .ensures)
+returns c = let p = c .before .before .before .before .before .before .before .before .before .before .before .before .before .before .before .before in long-stored (p .args .target .now) (p .args .b .now) (p .args .at) (p .args .form) (c .before .before .before .before .if1 .taken) (p .pre .1 .0) (c .before .before .before .before .before .before .before .put-bytes2 .ensures ∙ ap (λ (l : List ℕ). sets (p .args .target .now) (p .args .at) l) (first-is (c .before .before .before .before .before .before .before .before .before .before .before))) (c .before .before .put-zeros .ensures)
+
+same-length-2 : tie.Need-same-length-2
+same-length-2 c = search needs
+
+returns-2 : tie.Need-returns-2
+returns-2 c = let p = c .before .before .before .before .before .before .before .before .before .before .before .before in short-stored (p .args .target .now) (p .args .b .now) (p .args .at) (p .args .form) (p .pre .0) (c .if1 .left) (c .before .before .before .put-bytes2 .ensures ∙ ap (λ (l : List ℕ). sets (p .args .target .now) (p .args .at) l) (first-is (c .before .before .before .before .before .before .before)))
 
 pub put-record-spec : {M : Type 1} → statement M
 put-record-spec =
@@ -62,7 +65,8 @@ put-record-spec =
     slice-aggregate-put-bytes-2
     put-bytes-requires-2
     add-put-zeros
-    sub-put-zeros
     put-zeros-requires
     same-length
-    returns)
+    returns
+    same-length-2
+    returns-2)
