@@ -16,7 +16,7 @@ use Rattle.record.proofs.Choice.{tested}
 use Rattle.record.proofs.Checks.{row-fails, row-passes}
 use Rattle.record.proofs.Stores.{sets-over}
 use Rattle.command.specs.Task.{longForm, isForm, isList}
-use Rattle.command.proofs.Forms.{form-is, form-least, form-most, list-is}
+use Rattle.command.proofs.Forms.{form-is, form-least, form-most, list-is, count-most}
 use Rattle.form.specs.Turn.{turnedList, anyStaysLong, turnRows, turning, turnedInto}
 use Rattle.form.specs.declared.Turned.{Turned}
 use Rattle.form.proofs.Lists.{length-turned}
@@ -24,7 +24,7 @@ use Rattle.form.proofs.Accepted.{Accepted, accepted-by, into-is}
 
 -- a list that is one has at most 64 records, so its turned length is small
 pub length-low : (from to : ℕ) (list : List ℕ) → isForm to ≡ true → isList from list ≡ true → length list / from * to ≤ 3072
-length-low from to list f e = mul-le-mul {n₂ = 64} {m₂ = 48} (div-le-of-le-mul from (omega (arith, list-is from list e .2, mul-comm 64 from))) (form-most to f)
+length-low from to list f e = mul-le-mul {n₂ = 64} {m₂ = 48} (count-most from (length list) (list-is from list e .2)) (form-most to f)
 
 -- row 28 is asked of a long list
 asked-long : (from to : ℕ) (list : List ℕ) → isForm from ≡ true → isForm to ≡ true → (t : Bool) → ltb to from ≡ t → (t && anyStaysLong (partsOf longForm list)) ≡ (t && anyStaysLong (partsOf from list))

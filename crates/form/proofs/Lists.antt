@@ -9,10 +9,10 @@ use lib.ListN.{length, getD, take, drop, replicate, length-append, length-replic
 use lib.Seq.{length-take-le, take-add, take-all, drop-drop, take-at, drop-at}
 use borrow.Author.Tests.{eq-eqb, le-leb}
 use Rattle.record.specs.Lists.{partsFrom, partsOf}
-use Rattle.record.proofs.Lists.{length-parts}
+use Rattle.record.proofs.Lists.{length-parts, parts-behind}
 use Rattle.record.proofs.Choice.{and-go}
 use Rattle.command.specs.Task.{shortForm, isForm, isList}
-use Rattle.command.proofs.Forms.{form-least, list-is, length-part}
+use Rattle.command.proofs.Forms.{form-least, list-is, count-most, length-part}
 use Rattle.form.specs.Turn.{recordIn, listOf, turnedList}
 
 -- each of the records has so many bytes
@@ -51,16 +51,6 @@ length-turned from to list h k =
     ∙ ap (λ (n : ℕ). n * to) (length-map (partsOf from list) (recordIn to) ∙ length-parts from list)
 
 -- ---- the parts of records one behind another are these records
-parts-behind : (size : ℕ) (b l : List ℕ) → length b ≡ size → (i n : ℕ) → partsFrom size (b ++ l) (suc i) n ≡ partsFrom size l i n
-unfolding partsFrom
-parts-behind size b l e i zero = refl
-parts-behind size b l e i (suc n) = λ t. take size (past t) ∷ parts-behind size b l e (suc i) n t
-  where
-    past : drop (suc i * size) (b ++ l) ≡ drop (i * size) l
-    past =
-        let k : suc i * size ≡ size + i * size = omega (arith, suc-mul i size) in
-        ap (λ (m : ℕ). drop m (b ++ l)) k ∙ sym (drop-drop (i * size) size (b ++ l)) ∙ ap (drop (i * size)) (drop-at b l size e)
-
 from-back : (size : ℕ) (bs : List (List ℕ)) → Each size bs → partsFrom size (listOf bs) 0 (length bs) ≡ bs
 unfolding partsFrom Each listOf
 from-back size [] e = refl
@@ -121,6 +111,6 @@ module _ (from to : ℕ) (list : List ℕ) where
   list-turned h k =
       let l = list-is from list h in
       let n = length-turned from to list (l .0) k in
-      let c : length list / from ≤ 64 = div-le-of-le-mul from (omega (arith, l .2, mul-comm from 64)) in
+      let c = count-most from (length list) (l .2) in
       sym (and-go k (and-go (eq-eqb (length (turnedList from to list) % to) 0 (ap (λ (m : ℕ). m % to) n ∙ mul-mod-left (length list / from) to))
       (sym (le-leb (length (turnedList from to list)) (64 * to) (omega (arith, n, mul-le-mul-right to c))))))

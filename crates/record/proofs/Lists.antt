@@ -1,13 +1,13 @@
 -- Laws of lists by their elements, of limits on numbers, and of a list's parts.
 use Prim.Native.Nat.{ℕ, zero, suc, _+_, _-_, _*_, _/_, _<_, _≤_}
-use mathlib.Core.Path.{_≡_, refl, sym, ap, subst}
-use mathlib.Core.List.{List, [], _∷_}
+use mathlib.Core.Path.{_≡_, refl, sym, ap, subst, _∙_}
+use mathlib.Core.List.{List, [], _∷_, _++_}
 use mathlib.Core.Logic.{⊎-elim}
-use native.Mathlib.Nat.{le-of-suc-le-suc, not-suc-le-zero}
+use native.Mathlib.Nat.{le-of-suc-le-suc, not-suc-le-zero, suc-mul}
 use native.Mathlib.Numerals.{add-one}
 use native.Mathlib.Omega.{arith}
 use lib.ListN.{length, getD, take, drop, length-take}
-use lib.Seq.{getD-take, getD-drop}
+use lib.Seq.{getD-take, getD-drop, drop-drop, drop-at}
 use Rattle.record.specs.Lists.{AllBelow, tabulate, partsFrom, partsOf}
 use Rattle.record.proofs.Choice.{below-or-not}
 
@@ -58,6 +58,17 @@ parts-step size list i n h = let e : n - i ≡ suc (n - (i + 1)) = omega arith i
 pub parts-end : (size : ℕ) (list : List ℕ) (i n : ℕ) → n ≤ i → partsFrom size list i (n - i) ≡ []
 unfolding partsFrom
 parts-end size list i n h = let e : n - i ≡ 0 = omega arith in rw e
+
+-- the parts behind a first one are those of what is behind it
+pub parts-behind : (size : ℕ) (b l : List ℕ) → length b ≡ size → (i n : ℕ) → partsFrom size (b ++ l) (suc i) n ≡ partsFrom size l i n
+unfolding partsFrom
+parts-behind size b l e i zero = refl
+parts-behind size b l e i (suc n) = λ t. take size (past t) ∷ parts-behind size b l e (suc i) n t
+  where
+    past : drop (suc i * size) (b ++ l) ≡ drop (i * size) l
+    past =
+        let k : suc i * size ≡ size + i * size = omega (arith, suc-mul i size) in
+        ap (λ (m : ℕ). drop m (b ++ l)) k ∙ sym (drop-drop (i * size) size (b ++ l)) ∙ ap (drop (i * size)) (drop-at b l size e)
 
 length-from : (size : ℕ) (list : List ℕ) (i n : ℕ) → length (partsFrom size list i n) ≡ n
 unfolding partsFrom

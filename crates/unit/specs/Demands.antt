@@ -1,4 +1,5 @@
--- The three demands, as the customer wrote them; and the first two for the older units' S1D13706 (02, d).
+-- The three demands, as the customer wrote them, of lists in either form at once (02, g: a task has its form, any number); and the first two for
+-- the older units' S1D13706 (02, d).
 use Prim.Native.Nat.{ℕ, _<_}
 use mathlib.Core.Path.{_≡_}
 use mathlib.Core.List.{List}

@@ -11,6 +11,7 @@ use lib.Seq.{sets, take-at, drop-append-add}
 use lib.Dec.{leb, ltb, eqb}
 use borrow.Author.Tests.{leb-true, ltb-false, eqb-true, not-false, eq-eqb, ne-eqb, lt-ltb, le-ltb, lt-leb, le-leb}
 use Rattle.record.specs.Lists.{AllBelow, partsFrom, partsOf}
+use Rattle.record.proofs.Lists.{parts-behind}
 use Rattle.record.specs.Checks.{row, firstOf, AllPass, Numbered}
 use Rattle.record.proofs.Checks.{first-part, second-part, none, row-fails, row-passes, rows-end}
 use Rattle.record.proofs.Choice.{and-left, and-right, or-elim, both-ways}
@@ -46,21 +47,10 @@ list-append [] ys = refl
 list-append (c ∷ xs) ys = ap (λ (l : List ℕ). commandBytes c ++ l) (list-append xs ys) ∙ sym (append-assoc (commandBytes c) (listBytes xs) (listBytes ys))
 
 -- ---- the parts of the list are the records
--- 32 bytes in front: the parts from 1 on are those of what is behind them
-past : (c : Command) (l : List ℕ) (i : ℕ) → drop (suc i * 32) (commandBytes c ++ l) ≡ drop (i * 32) l
-past c l i =
-    let e : suc i * 32 ≡ length (commandBytes c) + i * 32 = omega (arith, length-command c) in
-    ap (λ (n : ℕ). drop n (commandBytes c ++ l)) e ∙ drop-append-add (commandBytes c) l (i * 32)
-
-parts-past : (c : Command) (l : List ℕ) (i n : ℕ) → partsFrom 32 (commandBytes c ++ l) (suc i) n ≡ partsFrom 32 l i n
-unfolding partsFrom
-parts-past c l i zero = refl
-parts-past c l i (suc n) = λ t. take 32 (past c l i t) ∷ parts-past c l (suc i) n t
-
 parts-from : (cs : List Command) → partsFrom 32 (listBytes cs) 0 (length cs) ≡ map commandBytes cs
 unfolding partsFrom listBytes
 parts-from [] = refl
-parts-from (c ∷ cs) = λ t. take-at (commandBytes c) (listBytes cs) 32 (length-command c) t ∷ (parts-past c (listBytes cs) 0 (length cs) ∙ parts-from cs) t
+parts-from (c ∷ cs) = λ t. take-at (commandBytes c) (listBytes cs) 32 (length-command c) t ∷ (parts-behind 32 (commandBytes c) (listBytes cs) (length-command c) 0 (length cs) ∙ parts-from cs) t
 
 pub list-parts : (cs : List Command) → partsOf 32 (listBytes cs) ≡ map commandBytes cs
 unfolding partsOf
