@@ -6,7 +6,7 @@ use mathlib.Core.Bool.{Bool, true, false}
 use lib.Dec.{ltb}
 use Rattle.pixel.specs.Pixel.{getPixel, putPixel}
 
--- where the source pixels come from: known before the blit starts, as pixel i of line j (fill, write),
+-- where the source pixels come from: known before the blit starts, as pixel i of line j (fill, write, pattern fill),
 -- or in memory, the first at an address (move)
 pub data Source : Type 0 where
   given : (ℕ → ℕ → ℕ) → Source

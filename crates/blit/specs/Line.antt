@@ -9,7 +9,7 @@ use Rattle.pixel.specs.Pixel.{getPixel}
 use Rattle.blit.specs.Blit.{pixels}
 use Rattle.blit.specs.Job.{mixOf}
 use Rattle.blit.specs.declared.Mix.{Mix}
-use Rattle.blit.specs.declared.Mix.the-variants.{Store, Raster}
+use Rattle.blit.specs.declared.Mix.the-variants.{Store, Raster, Key}
 
 -- which pixel of the line, counted from its low end, is drawn as the n-th
 unfoldable pub rank : Bool → ℕ → ℕ → ℕ
@@ -35,6 +35,7 @@ workLine down bytes width mix source lag n line =
 abbrev pub copies : Mix → Bool
 copies Store = true
 copies (Raster c) = eqb c 0xC
+copies (Key k) = false
 
 -- n pixels side by side, pixel i from f i
 unfoldable pub straightLine : ℕ → (ℕ → ℕ → ℕ) → (ℕ → ℕ) → ℕ → List ℕ → List ℕ

@@ -1,14 +1,14 @@
--- What the blit registers say of a blit that is started (01, "Blits"). Each is read by its bits (002 section 9.1).
-use Prim.Native.Nat.{ℕ, _+_, _*_, _/_, _%_}
+-- What the blit registers say of a blit that is started (01, "Blits"; 02, h). Each is read by its bits (002 section 9.1).
+use Prim.Native.Nat.{ℕ, _+_, _*_, _/_, _%_, _^_}
 use mathlib.Core.List.{List}
 use mathlib.Core.Bool.{Bool, true, false, _&&_, cond}
 use lib.Dec.{leb, eqb}
 use Rattle.blit.specs.Blit.{Blit, given}
 use Rattle.blit.specs.Job.{mixOf, performed}
 use Rattle.blit.specs.declared.Mix.{Mix}
-use Rattle.blit.specs.declared.Mix.the-variants.{Store, Raster}
+use Rattle.blit.specs.declared.Mix.the-variants.{Store, Raster, Key}
 use Rattle.blit.specs.declared.From.{From}
-use Rattle.blit.specs.declared.From.the-variants.{Colour, Memory}
+use Rattle.blit.specs.declared.From.the-variants.{Colour, Memory, Pattern}
 use Rattle.blit.specs.declared.Job.{Job}
 use Rattle.chip.specs.declared.Registers.{Registers}
 
@@ -46,22 +46,47 @@ heightOf b = b .height % 1024 + 1
 abbrev pub foregroundOf : Registers → ℕ
 foregroundOf b = b .foreground % 65536
 
+-- 8020h: the key colour, "bits 7-0" at depth 8 and "bits 15-0" at depth 16
+abbrev pub keyOf : Registers → ℕ
+keyOf b = b .background % 256 ^ bytesOf b
+
+-- 800Ch of a pattern fill (002 table 9-4): the pattern's address is in the bits from 6 on at depth 8 and from 7 on at depth 16, its line in
+-- the three bits below, and its pixel in those that are left
+abbrev pub patternBase : Registers → ℕ
+patternBase b = sourceOf b / (64 * bytesOf b) * (64 * bytesOf b)
+
+abbrev pub patternLine : Registers → ℕ
+patternLine b = sourceOf b / (8 * bytesOf b) % 8
+
+abbrev pub patternColumn : Registers → ℕ
+patternColumn b = sourceOf b / bytesOf b % 8
+
 -- a value for each operation of the model (002 section 9.1): 0 write, 2 move in positive direction, 3 move in negative direction,
--- Ch fill; and one for any other number
+-- 5 transparent move, 6 pattern fill with raster code, 7 pattern fill with key colour, Ch fill; and one for any other number
 module _ {A : Type 0} where
-  abbrev pub byBlit : ℕ → A → A → A → A → A → A
-  byBlit operation write up down fill other =
-      cond (eqb operation 0) write (cond (eqb operation 2) up (cond (eqb operation 3) down (cond (eqb operation 0xC) fill other)))
+  abbrev pub byBlit : ℕ → A → A → A → A → A → A → A → A → A
+  byBlit operation write up down transparent pattern keyed fill other =
+      cond (eqb operation 0) write
+      (cond (eqb operation 2) up
+      (cond (eqb operation 3) down
+      (cond (eqb operation 5) transparent
+      (cond (eqb operation 6) pattern
+      (cond (eqb operation 7) keyed
+      (cond (eqb operation 0xC) fill other))))))
 
 -- an address of whole pixels: even at depth 16
 abbrev pub wholeAt : Registers → ℕ → Bool
 wholeAt b a = eqb (a % bytesOf b) 0
 
--- what is asked of the source address: 0 of a write, whole pixels of a move, nothing of a fill; the model has no other operation
+-- what is asked of the source address: 0 of a write, whole pixels of a move and of a pattern, nothing of a fill; the model has no other
+-- operation
 unfoldable pub sourceFits : Registers → Bool
 sourceFits b =
     byBlit (operation b)
     (eqb (sourceOf b) 0)
+    (wholeAt b (sourceOf b))
+    (wholeAt b (sourceOf b))
+    (wholeAt b (sourceOf b))
     (wholeAt b (sourceOf b))
     (wholeAt b (sourceOf b))
     true
@@ -82,33 +107,48 @@ forward m b a = leb (a + span b + bytesOf b) m
 abbrev pub backward : ℕ → Registers → ℕ → Bool
 backward m b a = leb (span b) a && leb (a + bytesOf b) m
 
--- not refused by 22: every byte that the blit touches lies in the memory; a move touches its source under any raster code
+-- all bytes of the pattern lie there
+abbrev pub patternWithin : ℕ → Registers → Bool
+patternWithin m b = leb (patternBase b + 64 * bytesOf b) m
+
+-- not refused by 22: every byte that the blit touches lies in the memory; a move touches its source under any raster code, a pattern fill its
+-- pattern, and pixels that a key colour keeps are touched too (02, h)
 unfoldable pub within : ℕ → Registers → Bool
 within m b =
     byBlit (operation b)
     (forward m b (destinationOf b))
     (forward m b (destinationOf b) && forward m b (sourceOf b))
     (backward m b (destinationOf b) && backward m b (sourceOf b))
+    (forward m b (destinationOf b) && forward m b (sourceOf b))
+    (forward m b (destinationOf b) && patternWithin m b)
+    (forward m b (destinationOf b) && patternWithin m b)
     (forward m b (destinationOf b))
     true
 
--- what source and destination pixel make: "Fill stores the foreground", the others combine under the raster code
+-- what source and destination pixel make: "Fill stores the foreground", 5 and 7 go by the key colour and ignore the raster code (02, h), the
+-- others combine under the raster code
 unfoldable pub mixBy : Registers → Mix
 mixBy b =
     byBlit (operation b)
     (Raster (rasterCode b))
     (Raster (rasterCode b))
     (Raster (rasterCode b))
+    (Key (keyOf b))
+    (Raster (rasterCode b))
+    (Key (keyOf b))
     Store
     Store
 
--- where the source pixels are, a move's and a fill's; a write's come with its data words
+-- where the source pixels are, a move's, a pattern's and a fill's; a write's come with its data words
 unfoldable pub fromBy : Registers → From
 fromBy b =
     byBlit (operation b)
     (Colour 0)
     (Memory (sourceOf b))
     (Memory (sourceOf b))
+    (Memory (sourceOf b))
+    (Pattern (patternBase b) (patternColumn b) (patternLine b))
+    (Pattern (patternBase b) (patternColumn b) (patternLine b))
     (Colour (foregroundOf b))
     (Colour 0)
 
@@ -144,6 +184,9 @@ unfoldable pub started : Registers → List ℕ → List ℕ
 started b old =
     byBlit (operation b)
     old
+    (performed (jobOf b) old)
+    (performed (jobOf b) old)
+    (performed (jobOf b) old)
     (performed (jobOf b) old)
     (performed (jobOf b) old)
     (performed (jobOf b) old)

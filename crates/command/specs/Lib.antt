@@ -1,3 +1,4 @@
+pub mod Sharing
 pub mod Command
 pub mod Values
 pub mod Task

@@ -1,4 +1,4 @@
--- What compiling is given, and its refusals 1 to 16 and 26 (01, "Refusal numbers": "Compiling checks 1 to 11, then 12 to 15 command by
+-- What compiling is given, and its refusals 1 to 16, 26 and 29 (01, "Refusal numbers": "Compiling checks 1 to 11, then 12 to 15 command by
 -- command, then 16, 17"). The last, 17, is asked where there is a stream buffer.
 use Prim.Native.Nat.{ℕ, suc, _+_, _-_, _*_, _%_}
 use mathlib.Core.List.{List, [], _∷_, _++_}
@@ -50,13 +50,13 @@ listRows form s list =
     ∷ row 11 (ltb 0 (length list) && ltb (s .depth) 8)
     ∷ []
 
--- the first refusal of commands, of which the first has index i, with so many host words left; number 0 for none
-unfoldable pub firstRefusal : Screen → ℕ → ℕ → List (List ℕ) → Refusal
-firstRefusal s i left [] = record { number = 0; place = 0 }
-firstRefusal s i left (b ∷ bs) =
-    cond (eqb (refusal s left b) 0)
-    (firstRefusal s (suc i) (left - wordsTaken s (commandOf b)) bs)
-    (record { number = refusal s left b; place = i })
+-- the first refusal of commands, of which the first has index i, with so many host words left, the memory being m bytes; number 0 for none
+unfoldable pub firstRefusal : ℕ → Screen → ℕ → ℕ → List (List ℕ) → Refusal
+firstRefusal m s i left [] = record { number = 0; place = 0 }
+firstRefusal m s i left (b ∷ bs) =
+    cond (eqb (refusal m s left b) 0)
+    (firstRefusal m s (suc i) (left - wordsTaken s (commandOf b)) bs)
+    (record { number = refusal m s left b; place = i })
 
 -- host words that commands take
 unfoldable pub allWords : Screen → List (List ℕ) → ℕ
@@ -67,15 +67,15 @@ allWords s (b ∷ bs) = wordsTaken s (commandOf b) + allWords s bs
 unfoldable pub wordRows : Task → List Row
 wordRows t = row 16 (ltb (allWords (screenIn t) (commandsIn t)) (length (t .words))) ∷ []
 
--- the first refusal of 1 to 16 and 26, the memory being m bytes
+-- the first refusal of 1 to 16, 26 and 29, the memory being m bytes
 unfoldable pub taskRefusal : ℕ → Task → Refusal
 taskRefusal m t =
     let first = firstOf (screenRows m (t .screen) ++ listRows (t .form) (screenIn t) (t .list)) in
-    let inList = firstRefusal (screenIn t) 0 (length (t .words)) (commandsIn t) in
+    let inList = firstRefusal m (screenIn t) 0 (length (t .words)) (commandsIn t) in
     cond (not (eqb first 0)) (record { number = first; place = 0 })
     (cond (not (eqb (inList .number) 0)) inList
     (record { number = firstOf (wordRows t); place = 0 }))
 
--- none of 1 to 16 and 26 is given
+-- none of 1 to 16, 26 and 29 is given
 abbrev pub isAccepted : ℕ → Task → Bool
 isAccepted m t = eqb (taskRefusal m t .number) 0

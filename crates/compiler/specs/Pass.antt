@@ -7,8 +7,8 @@ use Rattle.screen.specs.declared.Screen.{Screen}
 use Rattle.command.specs.Task.{firstRefusal, allWords}
 use Rattle.compiler.specs.declared.Pass.{Pass}
 
--- the first refusal of 12 to 15, or the host words that the commands take
-unfoldable pub passOf : Screen → ℕ → List (List ℕ) → Pass
-passOf s left commands =
-    let f = firstRefusal s 0 left commands in
+-- the first refusal of 12 to 15 and 29, or the host words that the commands take
+unfoldable pub passOf : ℕ → Screen → ℕ → List (List ℕ) → Pass
+passOf m s left commands =
+    let f = firstRefusal m s 0 left commands in
     record { number = f .number; place = f .place; used = cond (eqb (f .number) 0) (allWords s commands) 0 }

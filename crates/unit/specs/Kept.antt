@@ -33,7 +33,7 @@ inGap depth i a =
 pub record Fit (screen : List ℕ) (left : ℕ) (command : List ℕ) : Type 0 where
   pub accepted : firstOf (screenRows memorySize screen) ≡ 0
   pub deep : 8 ≤ fieldsOf screen .depth
-  pub not-refused : refusal (fieldsOf screen) left command ≡ 0
+  pub not-refused : refusal memorySize (fieldsOf screen) left command ≡ 0
 
 -- the byte at an address is a shown one of no surface that the commands draw on
 unfoldable pub outside : Screen → List (List ℕ) → ℕ → Bool

@@ -1,4 +1,4 @@
--- The plain sheet (01, "The plain sheet"). It is fed the screen, the list and the host words, and knows no register or direction.
+-- The plain sheet (01, "The plain sheet"; 02, h). It is fed the screen, the list and the host words, and knows no register or direction.
 use Prim.Native.Nat.{ℕ, _+_, _-_, _*_, _/_, _%_, _^_}
 use mathlib.Core.List.{List, [], _∷_}
 use mathlib.Core.Bool.{Bool, _&&_, cond}
@@ -8,6 +8,7 @@ use Rattle.record.specs.Bytes.{byteAt}
 use Rattle.record.specs.Lists.{tabulate}
 use Rattle.pixel.specs.Pixel.{byteOf}
 use Rattle.pixel.specs.Raster.{raster}
+use Rattle.screen.specs.Image.{lineBytes}
 use Rattle.screen.specs.declared.Image.{Image}
 use Rattle.screen.specs.declared.Screen.{Screen}
 use Rattle.view.specs.View.{Pixel, pixelAt, among, ofShown}
@@ -42,21 +43,41 @@ hostPixel depth width words i j =
     cond (eqb depth 16) (getD words (line + i) 0)
     (cond (eqb (i % 2) 0) (getD words (line + i / 2) 0 % 256) (getD words (line + i / 2) 0 / 256))
 
--- s for pixel (i, j) of a command's rectangle: a fill's colour, what a move's source held just before, a write's host pixel
+-- a pattern: 8 by 8 pixels, "taken as rows of pixels" from its address on (02, h)
+abbrev pub patternImage : ℕ → Command → Image
+patternImage depth c = record { base = c .pattern; line = lineBytes depth 8; width = 8; height = 8 }
+
+-- "the pixel that the pattern held just before the command in column (pattern x + i) mod 8, row (pattern y + j) mod 8" (02, h)
+unfoldable pub patternPixel : ℕ → Command → List ℕ → ℕ → ℕ → ℕ
+patternPixel depth c old i j = sheetPixel depth (patternImage depth c) old (pixelAt ((c .px + i) % 8) ((c .py + j) % 8))
+
+-- s for pixel (i, j) of a command's rectangle: a fill's colour, what a move's source held just before, a write's host pixel, what the pattern
+-- held just before; "5 takes s as a move does" (02, h)
 unfoldable pub sheetSource : Screen → Command → List ℕ → List ℕ → ℕ → ℕ → ℕ
 sheetSource s c words old i j =
     byOperation (c .operation)
     (c .colour)
     (sheetPixel (s .depth) (surfaceOf s c) old (pixelAt (c .sx + i) (c .sy + j)))
     (hostPixel (s .depth) (c .width) words i j)
+    (patternPixel (s .depth) c old i j)
+    (patternPixel (s .depth) c old i j)
+    (sheetPixel (s .depth) (surfaceOf s c) old (pixelAt (c .sx + i) (c .sy + j)))
 
--- what s and d make: a fill keeps s, a move and a write combine the two under the raster code
+-- s, or d kept where s is the key (02, h)
+abbrev pub unlessKey : ℕ → ℕ → ℕ → ℕ
+unlessKey key source d = cond (eqb source key) d source
+
+-- what s and d make: a fill keeps s, a move and a write combine the two under the raster code; "3 combines s and d under the raster code, and
+-- 4 and 5 store s, or keep d where s is the key" (02, h)
 unfoldable pub sheetMix : Screen → Command → ℕ → ℕ → ℕ
 sheetMix s c source d =
     byOperation (c .operation)
     source
     (raster (s .depth) (c .raster) source d)
     (raster (s .depth) (c .raster) source d)
+    (raster (s .depth) (c .raster) source d)
+    (unlessKey (c .key) source d)
+    (unlessKey (c .key) source d)
 
 -- what pixel (i, j) becomes, from what the sheet held just before
 unfoldable pub newPixel : Screen → Command → List ℕ → List ℕ → ℕ → ℕ → ℕ

@@ -16,19 +16,19 @@ use Rattle.chip.specs.Admit.{admitRows, chipAfter}
 use Rattle.chip.specs.Play.{newChip}
 use Rattle.chip.specs.declared.Chip.{Chip}
 
--- 12 to 15 command by command, of which the first has index i, with so many host words left before it; a refusal's place is the
--- index of the command
-unfoldable pub listedRows : Screen → ℕ → ℕ → List (List ℕ) → List Row
-listedRows s i left [] = []
-listedRows s i left (b ∷ bs) =
-    rowsAt i (commandRows s left b (commandOf b)) ++ listedRows s (suc i) (left - wordsTaken s (commandOf b)) bs
+-- 12 to 15 and 29 command by command, of which the first has index i, with so many host words left before it, the memory being m bytes; a
+-- refusal's place is the index of the command
+unfoldable pub listedRows : ℕ → Screen → ℕ → ℕ → List (List ℕ) → List Row
+listedRows m s i left [] = []
+listedRows m s i left (b ∷ bs) =
+    rowsAt i (commandRows m s left b (commandOf b)) ++ listedRows m s (suc i) (left - wordsTaken s (commandOf b)) bs
 
 -- "1 to 11, then 12 to 15 command by command, then 16"
 unfoldable pub taskRows : ℕ → Task → List Row
 taskRows m t =
     screenRows m (t .screen)
     ++ (listRows (t .form) (screenIn t) (t .list)
-    ++ (listedRows (screenIn t) 0 (length (t .words)) (commandsIn t)
+    ++ (listedRows m (screenIn t) 0 (length (t .words)) (commandsIn t)
     ++ wordRows t))
 
 -- "Compiling checks 1 to 11, then 12 to 15 command by command, then 16, 17"
