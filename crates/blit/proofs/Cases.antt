@@ -114,7 +114,7 @@ pub copy-cases : map copies (Store ∷ Raster 0xC ∷ Raster 3 ∷ Raster 0xD �
 copy-cases = refl
 
 -- the limits of such a job are those of its lines and of its source
-limits : (m : ℕ) (down : Bool) (mix : Mix) (from : From) (destination : ℕ) → m ≤ 262144 → LineIn down 1 4 3 destination m 1 → SourceIn from down 1 4 3 m 1
+limits : (m : ℕ) (down : Bool) (mix : Mix) (from : From) (destination : ℕ) → m ≤ 262144 → LineIn down 1 4 3 destination m 1 → SourceIn from mix down 1 4 3 m 1
     → JobOk m (jobAt down mix from destination)
 limits m down mix from destination few to source =
     record {
@@ -136,7 +136,7 @@ pub jobs-inside : JobOk 8 (jobAt false Store (Memory 1) 1) × JobOk 8 (jobAt tru
 jobs-inside = (
   limits 8 false Store (Memory 1) 1 (omega arith) (omega arith) (omega arith, refl),
   limits 8 true Store (Memory 6) 7 (omega arith) (omega arith, omega arith) ((omega arith, omega arith), refl),
-  limits 8 false Store (Colour 9) 1 (omega arith) (omega arith) refl,
+  limits 8 false Store (Colour 9) 1 (omega arith) (omega arith) (refl, refl),
 )
 
 -- jobs that reach past them, and a colour that goes down
@@ -150,5 +150,5 @@ jobs-outside = (
   (λ k. omega (arith, k .source .0)),
   (λ k. omega (arith, k .source .0 .0)),
   (λ k. omega (arith, k .destination .1)),
-  (λ k. absurd (eqb-false 1 0 refl (ap (λ (t : Bool). cond t 1 0) (k .source)))),
+  (λ k. absurd (eqb-false 1 0 refl (ap (λ (t : Bool). cond t 1 0) (k .source .0)))),
 )

@@ -1,6 +1,6 @@
 -- Where no source pixel is one that the line has stored, the order of its pixels does not matter; and a mix that copies stores the source.
 use mathlib.Core.Path.{_≡_, refl, sym, ap, ap₂, _∙_}
-use mathlib.Core.Bool.{Bool, true, false}
+use mathlib.Core.Bool.{Bool, true, false, true≢false}
 use mathlib.Core.List.{List, [], _∷_}
 use Prim.Native.Nat.{ℕ, zero, suc, _+_, _-_, _*_, _/_, _%_, _^_, _≤_, _<_}
 use native.Mathlib.Nat.{mul-suc, pow-suc}
@@ -17,7 +17,7 @@ use Rattle.blit.specs.Blit.{pixels}
 use Rattle.blit.specs.Job.{mixOf}
 use Rattle.blit.specs.Line.{rank, spot, lagged, workLine, copies, straightLine, copied}
 use Rattle.blit.specs.declared.Mix.{Mix}
-use Rattle.blit.specs.declared.Mix.the-variants.{Store, Raster}
+use Rattle.blit.specs.declared.Mix.the-variants.{Store, Raster, Key}
 use Rattle.blit.proofs.Runs.{pixels-append, pixels-ext, step-fits}
 use Rattle.blit.proofs.Copy.{straight-copied}
 
@@ -133,6 +133,7 @@ pub mix-copies : (mix : Mix) (bytes s d : ℕ) → copies mix ≡ true → s < 2
 mix-copies Store bytes s d e h = refl
 mix-copies (Raster c) bytes s d e h =
     ap (λ (x : ℕ). raster (8 * bytes) x s d) (eqb-true c 0xC e) ∙ copies-whole (8 * bytes) s d (rw (pow-bytes bytes) h)
+mix-copies (Key k) bytes s d e h = absurd (true≢false (sym e))
 
 -- pixels that combine to their source are stored
 pixels-stored : (bytes : ℕ) (combine : ℕ → ℕ → ℕ) (place f : ℕ → ℕ) (n : ℕ) (m : List ℕ) → ((i d : ℕ) → combine (f i) d ≡ f i)
