@@ -2,15 +2,14 @@
 use Prim.Native.Nat.{ℕ, _<_, _≤_}
 use mathlib.Core.Path.{_≡_, refl}
 use mathlib.Core.List.{List, [], _∷_}
-use mathlib.Core.Bool.{Bool, true, false, _&&_, _||_, cond}
-use mathlib.Core.Logic.{_⊎_, inl, inr}
+use mathlib.Core.Bool.{Bool, true, false, not, _&&_, cond}
 use native.Mathlib.Omega.{arith}
 use lib.Dec.{leb}
 use borrow.Author.Tests.{leb-true}
 use Rattle.record.specs.Checks.{Row, firstOf}
-use Rattle.record.proofs.Choice.{and-left, and-right, or-elim}
+use Rattle.record.proofs.Choice.{and-left, and-right}
 use Rattle.screen.specs.declared.Screen.{Screen}
-use Rattle.command.specs.Command.{commandOf, commandRows, refusal}
+use Rattle.command.specs.Command.{commandOf, commandRows, namesCommand, refusal}
 
 -- every row's number passes a test
 unfoldable pub allOf : (ℕ → Bool) → List Row → Bool
@@ -36,17 +35,11 @@ first-between lo hi rows e h =
     let p = first-passes (between lo hi) rows e h in
     (leb-true lo (firstOf rows) (and-left (leb lo (firstOf rows)) _ p), leb-true (firstOf rows) hi (and-right (leb lo (firstOf rows)) _ p))
 
--- the numbers of no command: up to 11, and from 16 on
+-- the numbers of no command: all but 12 to 15 and 29
 abbrev pub ofNoCommand : ℕ → Bool
-ofNoCommand n = leb n 11 || leb 16 n
+ofNoCommand n = not (namesCommand n)
 
-pub first-of-no-command : (rows : List Row) → allOf ofNoCommand rows ≡ true → 0 < firstOf rows → (firstOf rows ≤ 11) ⊎ (16 ≤ firstOf rows)
-first-of-no-command rows e h =
-    or-elim (leb (firstOf rows) 11) (leb 16 (firstOf rows)) (first-passes ofNoCommand rows e h)
-    (λ p. inl (leb-true (firstOf rows) 11 p))
-    (λ p. inr (leb-true 16 (firstOf rows) p))
-
--- a command is refused by 12 to 15
-pub refusal-number : (s : Screen) (left : ℕ) (b : List ℕ) → 0 < refusal s left b → (12 ≤ refusal s left b) × (refusal s left b ≤ 15)
+-- a command is refused by a number that names it
+pub refusal-number : (m : ℕ) (s : Screen) (left : ℕ) (b : List ℕ) → 0 < refusal m s left b → namesCommand (refusal m s left b) ≡ true
 unfolding refusal commandRows allOf
-refusal-number s left b h = first-between 12 15 (commandRows s left b (commandOf b)) refl h
+refusal-number m s left b h = first-passes namesCommand (commandRows m s left b (commandOf b)) refl h

@@ -1,4 +1,4 @@
--- A task without a refusal of 1 to 16 and 26, and where a refusal stands.
+-- A task without a refusal of 1 to 16, 26 and 29, and where a refusal stands.
 use Prim.Native.Nat.{ℕ, _*_, _/_, _%_, _<_, _≤_}
 use mathlib.Core.Path.{_≡_, refl, sym, _∙_}
 use mathlib.Core.List.{List, _++_}
@@ -14,9 +14,10 @@ use Rattle.record.proofs.Lists.{length-parts}
 use Rattle.screen.specs.Screen.{fieldRows, screenRows}
 use Rattle.screen.specs.declared.Screen.{Screen}
 use Rattle.screen.proofs.Read.{screen-numbered, accepts, read-accepted}
+use Rattle.command.specs.Command.{namesCommand}
 use Rattle.command.specs.Task.{isForm, Task, screenIn, commandsIn, isList, listRows, firstRefusal, allWords, wordRows, taskRefusal}
 use Rattle.command.proofs.Forms.{list-is}
-use Rattle.command.proofs.Numbers.{allOf, first-between, first-of-no-command}
+use Rattle.command.proofs.Numbers.{allOf, first-passes, ofNoCommand}
 use Rattle.command.proofs.Commands.{AllFine, all-fine, words-suffice, RefusesOne, refusal-place}
 
 -- ---- rows 10, 11 and 16
@@ -67,15 +68,15 @@ module _ (m : ℕ) (t : Task) where
     by-list n h f = rw (first-is, f, ne-eqb n 0 (λ z. omega arith))
 
     module _ (f : firstOf (listRows (t .form) (screenIn t) (t .list)) ≡ 0) where
-      pub by-command : (n i : ℕ) → 0 < n → firstRefusal (screenIn t) 0 (length (t .words)) (commandsIn t) ≡ record { number = n; place = i } → taskRefusal m t ≡ record { number = n; place = i }
+      pub by-command : (n i : ℕ) → 0 < n → firstRefusal m (screenIn t) 0 (length (t .words)) (commandsIn t) ≡ record { number = n; place = i } → taskRefusal m t ≡ record { number = n; place = i }
       unfolding taskRefusal
       by-command n i h d = rw (first-is, f, d, ne-eqb n 0 (λ z. omega arith))
 
-      pub by-end : firstRefusal (screenIn t) 0 (length (t .words)) (commandsIn t) .number ≡ 0 → taskRefusal m t ≡ record { number = firstOf (wordRows t); place = 0 }
+      pub by-end : firstRefusal m (screenIn t) 0 (length (t .words)) (commandsIn t) .number ≡ 0 → taskRefusal m t ≡ record { number = firstOf (wordRows t); place = 0 }
       unfolding taskRefusal
       by-end d = rw (first-is, f, d)
 
--- ---- none of 1 to 16 and 26
+-- ---- none of 1 to 16, 26 and 29
 pub record Accepted (m : ℕ) (t : Task) : Type 0 where
   pub number : taskRefusal m t .number ≡ 0
   pub screen : firstOf (screenRows m (t .screen)) ≡ 0
@@ -85,8 +86,8 @@ pub record Accepted (m : ℕ) (t : Task) : Type 0 where
   pub whole : length (t .list) % t .form ≡ 0
   pub few : length (t .list) ≤ 64 * t .form
   pub deep : 0 < length (t .list) → 8 ≤ screenIn t .depth
-  pub none-refused : firstRefusal (screenIn t) 0 (length (t .words)) (commandsIn t) .number ≡ 0
-  pub fine : AllFine (screenIn t) (length (t .words)) (commandsIn t)
+  pub none-refused : firstRefusal m (screenIn t) 0 (length (t .words)) (commandsIn t) .number ≡ 0
+  pub fine : AllFine m (screenIn t) (length (t .words)) (commandsIn t)
   pub taken : allWords (screenIn t) (commandsIn t) ≡ length (t .words)
 
 first-zero : (a b : List Row) → firstOf (a ++ b) ≡ 0 → firstOf a ≡ 0
@@ -116,11 +117,11 @@ unfolding taskRefusal
 accepted-says m t e =
     let sc = screenRows m (t .screen) in
     let li = listRows (t .form) (screenIn t) (t .list) in
-    let p = no-number (firstOf (sc ++ li)) (firstOf (wordRows t)) (firstRefusal (screenIn t) 0 (length (t .words)) (commandsIn t)) e in
+    let p = no-number (firstOf (sc ++ li)) (firstOf (wordRows t)) (firstRefusal m (screenIn t) 0 (length (t .words)) (commandsIn t)) e in
     let s = first-zero sc li (p .0) in
     let r = read-accepted m (t .screen) (screenIn t) (sym (accepts m (t .screen) s)) in
     let l = list-says (t .form) (screenIn t) (t .list) (sym (second-part sc li (none sc (screen-numbered m (t .screen)) s)) ∙ p .0) in
-    let a = all-fine (screenIn t) 0 (length (t .words)) (commandsIn t) (p .1) in
+    let a = all-fine m (screenIn t) 0 (length (t .words)) (commandsIn t) (p .1) in
     record {
       number = e;
       screen = s;
@@ -132,38 +133,49 @@ accepted-says m t e =
       deep = l .deep;
       none-refused = p .1;
       fine = a;
-      taken = omega (arith, words-suffice (screenIn t) (length (t .words)) (commandsIn t) a, words-say t (p .2));
+      taken = omega (arith, words-suffice m (screenIn t) (length (t .words)) (commandsIn t) a, words-say t (p .2));
     }
 
 -- ---- where a refusal stands
--- a command of the list at 12 to 15, else place 0
+-- a command of the list that the number names, else place 0
 abbrev pub Placed : ℕ → Refusal → Type 0
-Placed count r = RefusesOne count r ⊎ (((r .number ≤ 11) ⊎ (16 ≤ r .number)) × (r .place ≡ 0))
+Placed count r = RefusesOne count r ⊎ ((namesCommand (r .number) ≡ false) × (r .place ≡ 0))
 
-placed-by : (count f e : ℕ) (d : Refusal) → (0 < f → (f ≤ 11) ⊎ (16 ≤ f)) → (0 < d .number → RefusesOne count d) → (0 < e → 16 ≤ e) → Placed count (firstIn f d e)
+placed-by : (count f e : ℕ) (d : Refusal) → (0 < f → namesCommand f ≡ false) → (0 < d .number → RefusesOne count d) → (0 < e → namesCommand e ≡ false) → Placed count (firstIn f d e)
 placed-by count f e d hf hd he = chosen (eqb f 0) (eqb (d .number) 0) (eqb e 0) refl refl refl
   where
     above : (n : ℕ) → (n ≡ 0 → ⊥) → 0 < n
     above n g = omega arith
 
+    none-named : (n : ℕ) → n ≡ 0 → namesCommand n ≡ false
+    none-named n h = rw h refl
+
     chosen : (t u v : Bool) → eqb f 0 ≡ t → eqb (d .number) 0 ≡ u → eqb e 0 ≡ v → Placed count (cond (not t) (record { number = f; place = 0 }) (cond (not u) d (record { number = e; place = 0 })))
-    chosen true true true p q r = inr (inl (omega (arith, eqb-true e 0 r)), refl)
-    chosen true true false p q r = inr (inr (he (above e (eqb-false e 0 r))), refl)
+    chosen true true true p q r = inr (none-named e (eqb-true e 0 r), refl)
+    chosen true true false p q r = inr (he (above e (eqb-false e 0 r)), refl)
     chosen true false v p q r = inl (hd (above (d .number) (eqb-false (d .number) 0 q)))
     chosen false u v p q r = inr (hf (above f (eqb-false f 0 p)), refl)
 
+-- a number that names no command
+no-name : (rows : List Row) → allOf ofNoCommand rows ≡ true → 0 < firstOf rows → namesCommand (firstOf rows) ≡ false
+no-name rows e h = not-true (namesCommand (firstOf rows)) (first-passes ofNoCommand rows e h)
+  where
+    not-true : (t : Bool) → not t ≡ true → t ≡ false
+    not-true true q = sym q
+    not-true false q = refl
+
 module _ (m : ℕ) (t : Task) where
-  first-number : 0 < firstOf (screenRows m (t .screen) ++ listRows (t .form) (screenIn t) (t .list)) → (firstOf (screenRows m (t .screen) ++ listRows (t .form) (screenIn t) (t .list)) ≤ 11) ⊎ (16 ≤ firstOf (screenRows m (t .screen) ++ listRows (t .form) (screenIn t) (t .list)))
+  first-number : 0 < firstOf (screenRows m (t .screen) ++ listRows (t .form) (screenIn t) (t .list)) → namesCommand (firstOf (screenRows m (t .screen) ++ listRows (t .form) (screenIn t) (t .list))) ≡ false
   unfolding screenRows fieldRows listRows allOf
-  first-number h = first-of-no-command (screenRows m (t .screen) ++ listRows (t .form) (screenIn t) (t .list)) refl h
+  first-number h = no-name (screenRows m (t .screen) ++ listRows (t .form) (screenIn t) (t .list)) refl h
 
-  last-number : 0 < firstOf (wordRows t) → 16 ≤ firstOf (wordRows t)
+  last-number : 0 < firstOf (wordRows t) → namesCommand (firstOf (wordRows t)) ≡ false
   unfolding wordRows allOf
-  last-number h = first-between 16 16 (wordRows t) refl h .0
+  last-number h = no-name (wordRows t) refl h
 
-  in-list : 0 < firstRefusal (screenIn t) 0 (length (t .words)) (commandsIn t) .number → RefusesOne (length (t .list) / t .form) (firstRefusal (screenIn t) 0 (length (t .words)) (commandsIn t))
-  in-list h = let k = refusal-place (screenIn t) 0 (length (t .words)) (commandsIn t) h in (k .0, k .1, omega (arith, length-parts (t .form) (t .list)))
+  in-list : 0 < firstRefusal m (screenIn t) 0 (length (t .words)) (commandsIn t) .number → RefusesOne (length (t .list) / t .form) (firstRefusal m (screenIn t) 0 (length (t .words)) (commandsIn t))
+  in-list h = let k = refusal-place m (screenIn t) 0 (length (t .words)) (commandsIn t) h in (k .0, omega (arith, k .1, length-parts (t .form) (t .list)))
 
   pub task-placed : Placed (length (t .list) / t .form) (taskRefusal m t)
   unfolding taskRefusal
-  task-placed = placed-by (length (t .list) / t .form) (firstOf (screenRows m (t .screen) ++ listRows (t .form) (screenIn t) (t .list))) (firstOf (wordRows t)) (firstRefusal (screenIn t) 0 (length (t .words)) (commandsIn t)) first-number in-list last-number
+  task-placed = placed-by (length (t .list) / t .form) (firstOf (screenRows m (t .screen) ++ listRows (t .form) (screenIn t) (t .list))) (firstOf (wordRows t)) (firstRefusal m (screenIn t) 0 (length (t .words)) (commandsIn t)) first-number in-list last-number

@@ -1,4 +1,4 @@
--- Cases by computation: tasks, with the first refusal of 1 to 16 and 26, and its place.
+-- Cases by computation: tasks, with the first refusal of 1 to 16, 26 and 29, and its place.
 use Prim.Native.Nat.{ℕ, zero, suc}
 use mathlib.Core.Path.{_≡_, refl}
 use mathlib.Core.List.{List, [], _∷_, _++_, map}
@@ -12,7 +12,8 @@ use Rattle.screen.specs.Image.{imageEnd, startOf}
 use Rattle.screen.specs.Screen.{memorySize, fieldsOf, wellFormed, panelOk, viewWidth, viewHeight, wholeDwords, mainImage, windowImage, lineOk, imageOk, windowOk, windowWhole, fieldRows, screenRows}
 use Rattle.screen.specs.Values.{windowX, windowY, originOf, valuesOf}
 use Rattle.screen.specs.Cases.{lined, plain}
-use Rattle.command.specs.Command.{commandOf, surfaceOf, mustBeZero, formed, insideImage, placed, lineWords, wordsTaken, commandRows, refusal}
+use Rattle.command.specs.Command.{commandOf, surfaceOf, addressOf, destinationOf, sourceOf, mustBeZero, patternFits, formed, insideImage, placed, clashes, lineWords, wordsTaken, commandRows, refusal}
+use Rattle.command.specs.Sharing.{anyOf, shareByte}
 use Rattle.command.specs.Task.{shortForm, longForm, Task, task, listRows, firstRefusal, allWords, wordRows, taskRefusal, isAccepted}
 
 -- 320 by 240 at a depth, base 0
@@ -33,9 +34,9 @@ move = 1 ∷ 0 ∷ 0xC ∷ 0 ∷ 1 ∷ 0 ∷ 0 ∷ 0 ∷ 7 ∷ 0 ∷ 1 ∷ 0 ∷
 abbrev pub write : List ℕ
 write = 2 ∷ 0 ∷ 0xC ∷ 0 ∷ 1 ∷ 0 ∷ 0 ∷ 0 ∷ 3 ∷ 0 ∷ 2 ∷ 0 ∷ replicate 20 0
 
--- operation 3; a rectangle of no width; one that ends past the surface
+-- operation 6; a rectangle of no width; one that ends past the surface
 abbrev pub strange : List ℕ
-strange = 3 ∷ replicate 31 0
+strange = 6 ∷ replicate 31 0
 
 abbrev pub empty : List ℕ
 empty = 0 ∷ 0 ∷ 0 ∷ 0 ∷ 10 ∷ 0 ∷ 20 ∷ 0 ∷ 0 ∷ 0 ∷ 150 ∷ 0 ∷ replicate 20 0
@@ -49,6 +50,13 @@ wide = lined 8 0 320 240 0 640
 
 abbrev past : List ℕ
 past = 0 ∷ 0 ∷ 0 ∷ 0 ∷ 230 ∷ 0 ∷ 20 ∷ 0 ∷ 100 ∷ 0 ∷ 150 ∷ 0 ∷ replicate 20 0
+
+-- in the long form: a pattern fill of 100 by 150 pixels with the pattern at 3C000h, and one with the pattern at 0, which it draws over
+abbrev pub hatched : List ℕ
+hatched = 3 ∷ 0 ∷ 0xC ∷ 0 ∷ 10 ∷ 0 ∷ 20 ∷ 0 ∷ 100 ∷ 0 ∷ 150 ∷ 0 ∷ replicate 22 0 ++ (3 ∷ 4 ∷ 0 ∷ 0xC0 ∷ 3 ∷ 0 ∷ replicate 8 0)
+
+abbrev pub overdrawn : List ℕ
+overdrawn = 3 ∷ 0 ∷ 0xC ∷ 0 ∷ 10 ∷ 0 ∷ 0 ∷ 0 ∷ 100 ∷ 0 ∷ 150 ∷ 0 ∷ replicate 36 0
 
 abbrev pub times : ℕ → List ℕ → List ℕ
 times zero l = []
@@ -67,7 +75,8 @@ refused n i = record { number = n; place = i }
 -- accepted: a screen alone, two writes with their words, 64 commands. Then 1, 9 before 10, 10 before 11, 65 commands, 11 before 12, 12
 -- before 16, 14 before a later 12, 15 by the words that are left, 16. Then long lines: accepted, 14 past what is shown, 26 before 10. Then the long form (02, g): two
 -- writes with their words, 64 commands, 65; a short record as a long list and a long one as a short list; three short records as two long ones,
--- and two long ones as three short ones; 12 by the operation, and by byte 33; 15. Then numbers of no form: 9 before 10, an empty list,
+-- and two long ones as three short ones; 12 by the operation, and by byte 33; 15. Then a pattern
+-- fill behind a write, 29 before a later 15, and pattern fills as a short list: 12. Then numbers of no form: 9 before 10, an empty list,
 -- 10 before 11
 abbrev tasks : List Task
 tasks =
@@ -96,6 +105,9 @@ tasks =
     ∷ task longForm (panel 8) (long fill ++ long strange) []
     ∷ task longForm (panel 8) (long fill ++ fill ++ (0 ∷ 1 ∷ replicate 14 0)) []
     ∷ task longForm (panel 8) (long write ++ long fill ++ long write) (0 ∷ fourWords)
+    ∷ task longForm (panel 8) (long write ++ hatched) fourWords
+    ∷ task longForm (panel 8) (hatched ++ overdrawn ++ long write) []
+    ∷ task shortForm (panel 8) (times 2 hatched) []
     ∷ task 0 badWindow [] []
     ∷ task 0 (panel 8) [] []
     ∷ task 33 (panel 8) [] []
@@ -107,11 +119,12 @@ refusals =
     refused 0 0 ∷ refused 0 0 ∷ refused 0 0 ∷ refused 1 0 ∷ refused 9 0 ∷ refused 10 0 ∷ refused 10 0 ∷ refused 11 0 ∷ refused 12 1 ∷ refused 14 1 ∷ refused 15 2 ∷ refused 16 0
     ∷ refused 0 0 ∷ refused 14 1 ∷ refused 26 0
     ∷ refused 0 0 ∷ refused 0 0 ∷ refused 10 0 ∷ refused 10 0 ∷ refused 10 0 ∷ refused 12 0 ∷ refused 12 1 ∷ refused 12 1 ∷ refused 12 1 ∷ refused 15 2
+    ∷ refused 0 0 ∷ refused 29 1 ∷ refused 12 0
     ∷ refused 9 0 ∷ refused 10 0 ∷ refused 10 0 ∷ refused 10 0
     ∷ []
 
 pub tasks-hold : map (taskRefusal memorySize) tasks ≡ refusals
-unfolding allZero firstOf partsFrom partsOf isDepth imageEnd startOf fieldsOf wellFormed panelOk viewWidth viewHeight wholeDwords mainImage windowImage lineOk imageOk windowOk windowWhole fieldRows screenRows windowX windowY originOf valuesOf commandOf surfaceOf mustBeZero formed insideImage placed lineWords wordsTaken commandRows refusal listRows firstRefusal allWords wordRows taskRefusal
+unfolding allZero firstOf partsFrom partsOf isDepth imageEnd startOf fieldsOf wellFormed panelOk viewWidth viewHeight wholeDwords mainImage windowImage lineOk imageOk windowOk windowWhole fieldRows screenRows windowX windowY originOf valuesOf commandOf surfaceOf addressOf destinationOf sourceOf mustBeZero patternFits formed insideImage placed anyOf shareByte clashes lineWords wordsTaken commandRows refusal listRows firstRefusal allWords wordRows taskRefusal
 tasks-hold = refl
 
 pub accepted-hold : map (isAccepted memorySize) (task shortForm (panel 1) [] [] ∷ task shortForm [] [] [] ∷ []) ≡ true ∷ false ∷ []

@@ -7,10 +7,10 @@ use lib.ListN.{getD}
 use lib.Dec.{eqb, ltb}
 use borrow.Author.Tests.{ne-eqb}
 use Rattle.screen.specs.declared.Screen.{Screen}
-use Rattle.command.specs.Command.{byOperation, surfaceOf}
-use Rattle.command.specs.Values.{addressOf, sourceOf, destinationOf, isNegative, lastColumn, lastLine, commandValue, sourceValue, destinationValue, controlValue, blitRegisters, uses, usedValue, blitValues}
+use Rattle.command.specs.Command.{byOperation, surfaceOf, addressOf, sourceOf, destinationOf}
+use Rattle.command.specs.Values.{isNegative, lastColumn, lastLine, commandValue, patternValue, sourceValue, destinationValue, controlValue, blitRegisters, uses, usedValue, blitValues}
 use Rattle.command.specs.declared.Command.{Command}
-use Rattle.command.proofs.Operation.{by-move, each, not-move, of-move}
+use Rattle.command.proofs.Operation.{each}
 
 -- registers and their values, no more of these, and each 0 that the operation does not use
 unfoldable UnusedZero : ℕ → List ℕ → List ℕ → Type 0
@@ -32,33 +32,32 @@ each-zero : (s : Screen) (c : Command) → UnusedZero (c .operation) blitRegiste
 unfolding blitValues UnusedZero
 each-zero s c =
     let u = not-used (c .operation) in
-    (u 0x8008 _, (u 0x800C _, (u 0x8010 _, (u 0x8014 _, (u 0x8018 _, (u 0x801C _, (λ e. refl, (u 0x8024 _, (u 0x8000 _, refl)))))))))
+    (u 0x8008 _, (u 0x800C _, (u 0x8010 _, (u 0x8014 _, (u 0x8018 _, (u 0x801C _, (u 0x8020 _, (u 0x8024 _, (u 0x8000 _, refl)))))))))
 
 pub unused-zero : (s : Screen) (c : Command) (k : ℕ) → uses (c .operation) (getD blitRegisters k 0) ≡ false → getD (blitValues s c) k 0 ≡ 0
 unused-zero s c k e = zero-at (c .operation) blitRegisters (blitValues s c) (each-zero s c) k e
 
 -- ---- the values with what each operation uses worked out
 module _ (s : Screen) (c : Command) where
-  colour-is : usedValue (c .operation) 0x8024 (c .colour) ≡ byOperation (c .operation) (c .colour) 0 0
-  colour-is = each (c .operation) (λ e. rw e) (λ e. rw e) (λ p q. rw (ne-eqb (c .operation) 0 p, ne-eqb (c .operation) 1 q))
+  -- a table of what is used, taken at each operation
+  abbrev op : ℕ
+  op = c .operation
 
-  source-is : usedValue (c .operation) 0x800C (sourceValue s c) ≡ sourceValue s c
+  colour-is : usedValue op 0x8024 (c .colour) ≡ byOperation op (c .colour) 0 0 0 0 0
+  colour-is = each op (λ e. rw e) (λ e. rw e) (λ e. rw e) (λ e. rw e) (λ e. rw e) (λ p0 p1 p2 p3 p4. rw (ne-eqb op 0 p0, ne-eqb op 1 p1, ne-eqb op 2 p2, ne-eqb op 3 p3, ne-eqb op 4 p4))
+
+  key-is : usedValue op 0x8020 (c .key) ≡ byOperation op 0 0 0 0 (c .key) (c .key)
+  key-is = each op (λ e. rw e) (λ e. rw e) (λ e. rw e) (λ e. rw e) (λ e. rw e) (λ p0 p1 p2 p3 p4. rw (ne-eqb op 0 p0, ne-eqb op 1 p1, ne-eqb op 2 p2, ne-eqb op 3 p3, ne-eqb op 4 p4))
+
+  pub source-is : usedValue op 0x800C (sourceValue s c) ≡ sourceValue s c
   unfolding sourceValue
-  source-is = each (c .operation) (λ e. rw e) (λ e. rw e) (λ p q. rw (ne-eqb (c .operation) 0 p, ne-eqb (c .operation) 1 q))
+  source-is = each op (λ e. rw e) (λ e. rw e) (λ e. rw e) (λ e. rw e) (λ e. rw e) (λ p0 p1 p2 p3 p4. rw (ne-eqb op 0 p0, ne-eqb op 1 p1, ne-eqb op 2 p2, ne-eqb op 3 p3, ne-eqb op 4 p4))
 
-  pub values-are : blitValues s c ≡ commandValue s c ∷ sourceValue s c ∷ destinationValue s c ∷ (surfaceOf s c .line / 2) ∷ (c .width - 1) ∷ (c .height - 1) ∷ 0 ∷ byOperation (c .operation) (c .colour) 0 0 ∷ controlValue (s .depth) ∷ []
+  pub values-are : blitValues s c ≡ commandValue s c ∷ sourceValue s c ∷ destinationValue s c ∷ (surfaceOf s c .line / 2) ∷ (c .width - 1) ∷ (c .height - 1) ∷ byOperation op 0 0 0 0 (c .key) (c .key) ∷ byOperation op (c .colour) 0 0 0 0 0 ∷ controlValue (s .depth) ∷ []
   unfolding blitValues
-  values-are = rw (colour-is, source-is)
+  values-are = rw (colour-is, source-is, key-is)
 
-  -- 800Ch, and the direction, by the operation
-  pub source-moved : c .operation ≡ 1 → sourceValue s c ≡ addressOf (s .depth) (surfaceOf s c) (c .sx + lastColumn s c) (c .sy + lastLine s c)
-  unfolding sourceValue
-  source-moved e = by-move (c .operation) 0 _ 0 e
-
-  pub source-none : (c .operation ≡ 1 → ⊥) → sourceValue s c ≡ 0
-  unfolding sourceValue
-  source-none h = not-move (c .operation) 0 _ h
-
-  pub negative-is : isNegative s c ≡ (eqb (c .operation) 1 && ltb (sourceOf s c) (destinationOf s c))
+  -- the direction
+  pub negative-is : isNegative s c ≡ (eqb op 1 && ltb (sourceOf s c) (destinationOf s c))
   unfolding isNegative
-  negative-is = of-move (c .operation) (ltb (sourceOf s c) (destinationOf s c))
+  negative-is = each op (λ e. rw e) (λ e. rw e) (λ e. rw e) (λ e. rw e) (λ e. rw e) (λ p0 p1 p2 p3 p4. rw (ne-eqb op 0 p0, ne-eqb op 1 p1, ne-eqb op 2 p2, ne-eqb op 3 p3, ne-eqb op 4 p4))
