@@ -1,16 +1,16 @@
 -- What acceptance says of the whole, and where a refusal stands.
 use Prim.Native.Nat.{ℕ, _+_, _*_, _/_, _<_, _≤_}
 use mathlib.Core.Path.{_≡_, refl, sym, _∙_}
-use mathlib.Core.Bool.{Bool, true, false, cond}
-use mathlib.Core.Logic.{_⊎_, inl, inr}
+use mathlib.Core.Bool.{Bool, true, false, cond, true≢false}
+use mathlib.Core.Logic.{inl, inr}
 use native.Mathlib.Omega.{arith}
 use lib.ListN.{length}
-use lib.Dec.{eqb}
+use lib.Dec.{eqb, ltb}
 use borrow.Author.Tests.{eqb-true, eqb-false}
 use Rattle.record.specs.Checks.{firstOf, Refusal}
 use Rattle.record.proofs.Lists.{length-parts}
+use Rattle.command.specs.Command.{namesCommand}
 use Rattle.command.specs.Task.{Task, screenIn, commandsIn, taskRefusal}
-use Rattle.command.proofs.Numbers.{allOf, first-between}
 use Rattle.command.proofs.Task.{Accepted as TaskAccepted, accepted-says, Placed, task-placed}
 use Rattle.compiler.specs.Stream.{recordsIn}
 use Rattle.compiler.specs.Compile.{roomRows, refusalOf, refusedBy, Compiling, compiling}
@@ -59,21 +59,18 @@ module _ (m : ℕ) (t : Task) (room : ℕ) where
       }
 
 -- ---- where a refusal stands
-placed-by : (count n : ℕ) (r : Refusal) → Placed count r → (0 < n → 16 ≤ n) → (b : Bool) → Placed count (cond b (record { number = n; place = 0 }) r)
-placed-by count n r p f true = last (eqb n 0) refl
-  where
-    above : (n ≡ 0 → ⊥) → 0 < n
-    above g = omega arith
-
-    last : (b : Bool) → eqb n 0 ≡ b → Placed count (record { number = n; place = 0 })
-    last true e = inr (inl (omega (arith, eqb-true n 0 e)), refl)
-    last false e = inr (inr (f (above (eqb-false n 0 e))), refl)
+placed-by : (count n : ℕ) (r : Refusal) → Placed count r → namesCommand n ≡ false → (b : Bool) → Placed count (cond b (record { number = n; place = 0 }) r)
+placed-by count n r p f true = inr (f, refl)
 placed-by count n r p f false = p
 
 module _ (m : ℕ) (t : Task) (room : ℕ) where
-  room-number : 0 < firstOf (roomRows t room) → 16 ≤ firstOf (roomRows t room)
-  unfolding roomRows allOf
-  room-number h = first-between 16 17 (roomRows t room) refl h .0
+  room-number : namesCommand (firstOf (roomRows t room)) ≡ false
+  unfolding roomRows firstOf
+  room-number = either (ltb room (8 * length (recordsIn t)))
+    where
+      either : (b : Bool) → namesCommand (cond b 17 0) ≡ false
+      either true = refl
+      either false = refl
 
   refusal-placed : Placed (length (t .list) / t .form) (refusalOf m t room)
   unfolding refusalOf
@@ -87,17 +84,13 @@ module _ (m : ℕ) (t : Task) (room : ℕ) where
       told b = cond b (record { number = 0; place = 0; length = 8 * length (recordsIn t); depth = screenIn t .depth; rotation = screenIn t .rotation; flag = screenIn t .flag }) (refusedBy (refusalOf m t room .number) (refusalOf m t room .place))
 
       chosen : (b : Bool) → Placed (length (t .list) / t .form) (record { number = told b .number; place = told b .place })
-      chosen true = inr (inl (omega arith), refl)
+      chosen true = inr (refl, refl)
       chosen false = refusal-placed
 
-  -- the place of 12 to 15 is that of a command
-  pub command-place : 12 ≤ compiling m t room .number → compiling m t room .number ≤ 15 → compiling m t room .place < length (t .list) / t .form
-  command-place p q = taken places
+  -- the place of a number that names a command is that of a command
+  pub command-place : namesCommand (compiling m t room .number) ≡ true → compiling m t room .place < length (t .list) / t .form
+  command-place p = taken places
     where
       taken : Placed (length (t .list) / t .form) (record { number = compiling m t room .number; place = compiling m t room .place }) → compiling m t room .place < length (t .list) / t .form
-      taken (inl h) = h .2
-      taken (inr h) = other (h .0)
-        where
-          other : (compiling m t room .number ≤ 11) ⊎ (16 ≤ compiling m t room .number) → compiling m t room .place < length (t .list) / t .form
-          other (inl k) = absurd (omega arith)
-          other (inr k) = absurd (omega arith)
+      taken (inl h) = h .1
+      taken (inr h) = absurd (true≢false (sym p ∙ h .0))

@@ -12,10 +12,11 @@ use Rattle.screen.specs.Image.{imageEnd, startOf}
 use Rattle.screen.specs.Screen.{memorySize, fieldsOf, wellFormed, panelOk, viewWidth, viewHeight, wholeDwords, mainImage, windowImage, lineOk, imageOk, windowOk, windowWhole, fieldRows, screenRows}
 use Rattle.screen.specs.Values.{windowX, windowY, originOf, valuesOf}
 use Rattle.screen.specs.Cases.{withWindow}
-use Rattle.command.specs.Command.{commandOf, surfaceOf, mustBeZero, formed, insideImage, placed, lineWords, wordsTaken, commandRows, refusal}
-use Rattle.command.specs.Values.{addressOf, destinationOf, sourceOf, isNegative, lastColumn, lastLine, commandValue, sourceValue, destinationValue, controlValue, blitValues}
+use Rattle.command.specs.Command.{commandOf, surfaceOf, addressOf, destinationOf, sourceOf, mustBeZero, patternFits, formed, insideImage, placed, clashes, lineWords, wordsTaken, commandRows, refusal}
+use Rattle.command.specs.Sharing.{anyOf, shareByte}
+use Rattle.command.specs.Values.{isNegative, lastColumn, lastLine, commandValue, patternValue, sourceValue, destinationValue, controlValue, blitValues}
 use Rattle.command.specs.Task.{shortForm, longForm, task, listRows, firstRefusal, allWords, wordRows, taskRefusal}
-use Rattle.command.proofs.Tasks.{panel, badWindow, fill, move, write, strange, empty, outside, times, long, fourWords}
+use Rattle.command.proofs.Tasks.{panel, badWindow, fill, move, write, strange, empty, outside, hatched, overdrawn, times, long, fourWords}
 use Rattle.compiler.specs.Stream.{recordsWith, screenRecords, dataRecords, commandRecords, drawRecords, recordsFor}
 use Rattle.compiler.specs.Compile.{roomRows, refusalOf, compiling, streamOf, bufferAfter, compilingOf, answerOf, numbersOf}
 use Rattle.compiler.specs.Part.{partFrom, partSize}
@@ -69,9 +70,13 @@ turned = withWindow 3 64 80 120 160
 abbrev screenBytes : ℕ → List ℕ
 screenBytes offset = streamBytes (recordWith 0x40 0 ∷ recordWith 0x44 offset ∷ recordWith 0x50 0 ∷ recordWith 0x54 0 ∷ recordWith 0x58 0 ∷ recordWith 0x5C 0 ∷ [])
 
--- B1's nine records, and those of the move and of the write with its words
+-- the nine records of B1, of a pattern fill, of the move and of the write, with its words
 abbrev fillBytes : List ℕ
 fillBytes = streamBytes (recordWith 0x8008 0xC ∷ recordWith 0x800C 0 ∷ recordWith 0x8010 0x190A ∷ recordWith 0x8014 0xA0 ∷ recordWith 0x8018 0x63 ∷ recordWith 0x801C 0x95 ∷ recordWith 0x8020 0 ∷ recordWith 0x8024 1 ∷ recordWith 0x8000 1 ∷ [])
+
+-- 002's example 16
+abbrev hatchedBytes : List ℕ
+hatchedBytes = streamBytes (recordWith 0x8008 0xC0006 ∷ recordWith 0x800C 0x3C023 ∷ recordWith 0x8010 0x190A ∷ recordWith 0x8014 0xA0 ∷ recordWith 0x8018 0x63 ∷ recordWith 0x801C 0x95 ∷ recordWith 0x8020 0 ∷ recordWith 0x8024 0 ∷ recordWith 0x8000 1 ∷ [])
 
 abbrev moveBytes : List ℕ
 moveBytes = streamBytes (recordWith 0x8008 0xC0003 ∷ recordWith 0x800C 6 ∷ recordWith 0x8010 7 ∷ recordWith 0x8014 0xA0 ∷ recordWith 0x8018 6 ∷ recordWith 0x801C 0 ∷ recordWith 0x8020 0 ∷ recordWith 0x8024 0 ∷ recordWith 0x8000 1 ∷ [])
@@ -121,6 +126,9 @@ cases =
     ∷ longCase (panel 8) (long outside ++ long fill) [] 1000 2
     ∷ longCase (panel 8) (long fill ++ long write ++ long write) (0x201 ∷ 3 ∷ fourWords) 1000 2
     ∷ longCase (panel 8) (long fill) [] 119 2
+    -- a pattern fill (02, h), and one that draws over its pattern behind it
+    ∷ longCase (panel 8) (long fill ++ hatched) [] 194 194
+    ∷ longCase (panel 8) (long fill ++ hatched ++ overdrawn) fourWords 1000 2
     ∷ []
 
 abbrev expected : List Result
@@ -158,10 +166,12 @@ expected =
     ∷ refusedLong 14 0
     ∷ refusedLong 15 2
     ∷ refused 17
+    ∷ accepted 192 8 (screenBytes 0x50 ++ fillBytes ++ hatchedBytes ++ (7 ∷ 7 ∷ []))
+    ∷ refusedLong 29 2
     ∷ []
 
 pub cases-hold : map run cases ≡ expected
-unfolding allZero recordBytes streamBytes firstOf isDepth imageEnd startOf fieldsOf wellFormed panelOk viewWidth viewHeight wholeDwords mainImage windowImage lineOk imageOk windowOk windowWhole fieldRows screenRows windowX windowY originOf valuesOf commandOf surfaceOf mustBeZero formed insideImage placed lineWords wordsTaken commandRows refusal addressOf destinationOf sourceOf isNegative lastColumn lastLine commandValue sourceValue destinationValue controlValue blitValues partsFrom partsOf recordsWith screenRecords dataRecords commandRecords drawRecords recordsFor listRows firstRefusal allWords wordRows taskRefusal roomRows refusalOf compiling streamOf bufferAfter numbersOf partFrom partSize
+unfolding allZero recordBytes streamBytes firstOf isDepth imageEnd startOf fieldsOf wellFormed panelOk viewWidth viewHeight wholeDwords mainImage windowImage lineOk imageOk windowOk windowWhole fieldRows screenRows windowX windowY originOf valuesOf commandOf surfaceOf addressOf destinationOf sourceOf mustBeZero patternFits formed insideImage placed anyOf shareByte clashes lineWords wordsTaken commandRows refusal isNegative lastColumn lastLine commandValue patternValue sourceValue destinationValue controlValue blitValues partsFrom partsOf recordsWith screenRecords dataRecords commandRecords drawRecords recordsFor listRows firstRefusal allWords wordRows taskRefusal roomRows refusalOf compiling streamOf bufferAfter numbersOf partFrom partSize
 cases-hold = refl
 
 -- the numbers of an answer, and the answer with these numbers

@@ -25,13 +25,13 @@ rest size list count i = partsFrom size list i (count - i)
 abbrev pub partAt : ℕ → List ℕ → ℕ → List ℕ
 partAt size list i = take size (drop (i * size) list)
 
-module _ (s : Screen) (size : ℕ) (list : List ℕ) (left : ℕ) where
+module _ (m : ℕ) (s : Screen) (size : ℕ) (list : List ℕ) (left : ℕ) where
   pub record Going (count i used : ℕ) : Type 0 where
     pub count-is : count ≡ length list / size
     pub within : i ≤ count
     pub fits : used ≤ left
     pub small : used ≤ i * 4294967295
-    pub refusal-is : firstRefusal s 0 left (partsOf size list) ≡ firstRefusal s i (left - used) (rest size list count i)
+    pub refusal-is : firstRefusal m s 0 left (partsOf size list) ≡ firstRefusal m s i (left - used) (rest size list count i)
     pub words-are : allWords s (partsOf size list) ≡ used + allWords s (rest size list count i)
 
   pub going-start : Going (length list / size) 0 0
@@ -46,43 +46,43 @@ module _ (s : Screen) (size : ℕ) (list : List ℕ) (left : ℕ) where
   unfolding allWords
   all-end = refl
 
-  refusal-end : (i k : ℕ) → firstRefusal s i k [] ≡ record { number = 0; place = 0 }
+  refusal-end : (i k : ℕ) → firstRefusal m s i k [] ≡ record { number = 0; place = 0 }
   unfolding firstRefusal
   refusal-end i k = refl
 
   module _ (count i used : ℕ) (g : Going count i used) where
     -- an accepted command's words are there
-    pub words-fit : (c : Command) → commandAnswer s (left - used) (partAt size list i) ≡ Accepted c → used + wordsTaken s c ≤ left
+    pub words-fit : (c : Command) → commandAnswer m s (left - used) (partAt size list i) ≡ Accepted c → used + wordsTaken s c ≤ left
     words-fit c p =
-        let a = command-accepted s (left - used) (partAt size list i) c p in
-        let f = fine s (left - used) (partAt size list i) (a .1) .words in
+        let a = command-accepted m s (left - used) (partAt size list i) c p in
+        let f = fine m s (left - used) (partAt size list i) (a .1) .words in
         rw (a .0) (omega (arith, f, g .fits))
 
-    pub going-turn : (c : Command) → i < count → wordsTaken s c ≤ 4294967295 → commandAnswer s (left - used) (partAt size list i) ≡ Accepted c → Going count (i + 1) (used + wordsTaken s c)
+    pub going-turn : (c : Command) → i < count → wordsTaken s c ≤ 4294967295 → commandAnswer m s (left - used) (partAt size list i) ≡ Accepted c → Going count (i + 1) (used + wordsTaken s c)
     going-turn c h w p =
-        let a = command-accepted s (left - used) (partAt size list i) c p in
+        let a = command-accepted m s (left - used) (partAt size list i) c p in
         record {
           count-is = g .count-is;
           within = omega arith;
           fits = words-fit c p;
           small = omega (arith, g .small);
           refusal-is =
-              g .refusal-is ∙ ap (λ (bs : List (List ℕ)). firstRefusal s i (left - used) bs) (parts-step size list i count h)
-              ∙ refusal-go s i (left - used) (partAt size list i) (rest size list count (i + 1)) (a .1) ∙ (rw (a .0, sub-add-eq left used (wordsTaken s (commandOf (partAt size list i)))));
+              g .refusal-is ∙ ap (λ (bs : List (List ℕ)). firstRefusal m s i (left - used) bs) (parts-step size list i count h)
+              ∙ refusal-go m s i (left - used) (partAt size list i) (rest size list count (i + 1)) (a .1) ∙ (rw (a .0, sub-add-eq left used (wordsTaken s (commandOf (partAt size list i)))));
           words-are = omega (arith, g .words-are, ap (allWords s) (parts-step size list i count h), all-step (partAt size list i) (rest size list count (i + 1)), ap (wordsTaken s) (a .0));
         }
 
-    pub pass-refused : (n : ℕ) → i < count → commandAnswer s (left - used) (partAt size list i) ≡ Refused n → record { number = n; place = i; used = 0 } ≡ passOf s left (partsOf size list)
+    pub pass-refused : (n : ℕ) → i < count → commandAnswer m s (left - used) (partAt size list i) ≡ Refused n → record { number = n; place = i; used = 0 } ≡ passOf m s left (partsOf size list)
     unfolding passOf
     pass-refused n h p =
-        let a = command-refused s (left - used) (partAt size list i) n p in
-        let e = g .refusal-is ∙ ap (λ (bs : List (List ℕ)). firstRefusal s i (left - used) bs) (parts-step size list i count h)
-        ∙ refusal-stop s i (left - used) n (partAt size list i) (rest size list count (i + 1)) (a .0) (a .1) in
+        let a = command-refused m s (left - used) (partAt size list i) n p in
+        let e = g .refusal-is ∙ ap (λ (bs : List (List ℕ)). firstRefusal m s i (left - used) bs) (parts-step size list i count h)
+        ∙ refusal-stop m s i (left - used) n (partAt size list i) (rest size list count (i + 1)) (a .0) (a .1) in
         rw (e, ne-eqb n 0 (λ z. omega arith))
 
-    pub pass-done : count ≤ i → record { number = 0; place = 0; used = used } ≡ passOf s left (partsOf size list)
+    pub pass-done : count ≤ i → record { number = 0; place = 0; used = used } ≡ passOf m s left (partsOf size list)
     unfolding passOf
     pass-done h =
-        let e = g .refusal-is ∙ ap (λ (bs : List (List ℕ)). firstRefusal s i (left - used) bs) (parts-end size list i count h) ∙ refusal-end i (left - used) in
+        let e = g .refusal-is ∙ ap (λ (bs : List (List ℕ)). firstRefusal m s i (left - used) bs) (parts-end size list i count h) ∙ refusal-end i (left - used) in
         let w : allWords s (partsOf size list) ≡ used = omega (arith, g .words-are, ap (allWords s) (parts-end size list i count h), all-end) in
         rw (e, w)

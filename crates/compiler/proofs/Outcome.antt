@@ -75,19 +75,19 @@ module _ (m : ℕ) (t : Task) (old : List ℕ) where
 
 -- ---- the first pass
 -- its number and place are the first refusal's
-pass-refusal : (s : Screen) (left : ℕ) (commands : List (List ℕ)) (p : Pass) → p ≡ passOf s left commands → firstRefusal s 0 left commands ≡ record { number = p .number; place = p .place }
+pass-refusal : (m : ℕ) (s : Screen) (left : ℕ) (commands : List (List ℕ)) (p : Pass) → p ≡ passOf m s left commands → firstRefusal m s 0 left commands ≡ record { number = p .number; place = p .place }
 unfolding passOf
-pass-refusal s left commands p e = rw e
+pass-refusal m s left commands p e = rw e
 
-pass-words : (s : Screen) (left : ℕ) (commands : List (List ℕ)) (p : Pass) → p ≡ passOf s left commands → p .number ≡ 0 → p .used ≡ allWords s commands
+pass-words : (m : ℕ) (s : Screen) (left : ℕ) (commands : List (List ℕ)) (p : Pass) → p ≡ passOf m s left commands → p .number ≡ 0 → p .used ≡ allWords s commands
 unfolding passOf
-pass-words s left commands p e z =
-    let f : firstRefusal s 0 left commands .number ≡ 0 = ap (λ (r : Refusal). r .number) (pass-refusal s left commands p e) ∙ z in
+pass-words m s left commands p e z =
+    let f : firstRefusal m s 0 left commands .number ≡ 0 = ap (λ (r : Refusal). r .number) (pass-refusal m s left commands p e) ∙ z in
     ap (λ (q : Pass). q .used) e ∙ (rw f)
 
 -- the stream's bytes, by what it counts
-size-is : (s : Screen) (commands : List (List ℕ)) (words : List ℕ) → firstRefusal s 0 (length words) commands .number ≡ 0 → 8 * length (recordsFor s commands words) ≡ 48 + 72 * length commands + 8 * allWords s commands
-size-is s commands words e = omega (arith, length-records s words commands (words-suffice s (length words) commands (all-fine s 0 (length words) commands e)))
+size-is : (m : ℕ) (s : Screen) (commands : List (List ℕ)) (words : List ℕ) → firstRefusal m s 0 (length words) commands .number ≡ 0 → 8 * length (recordsFor s commands words) ≡ 48 + 72 * length commands + 8 * allWords s commands
+size-is m s commands words e = omega (arith, length-records s words commands (words-suffice m s (length words) commands (all-fine m s 0 (length words) commands e)))
 
 -- ---- each way to an answer, as the code goes
 pub refused-screen : (m : ℕ) (bytes : List ℕ) (n : ℕ) → screenOf m bytes ≡ screen-answer.Refused n → (firstOf (screenRows m bytes) ≡ n) × (0 < n)
@@ -121,25 +121,25 @@ module _ (m : ℕ) (t : Task) (old : List ℕ) where
     pub told-list : (fault ≡ 0 → ⊥) → Told m t old (Refused fault 0) old
     told-list h = task-told m t old fault 0 (omega arith) (by-list m t rows-pass fault (omega arith) (sym fault-of))
 
-    module _ (p : Pass) (p-is : p ≡ passOf s (length (t .words)) (commandsIn t)) (none-fault : fault ≡ 0) where
+    module _ (p : Pass) (p-is : p ≡ passOf m s (length (t .words)) (commandsIn t)) (none-fault : fault ≡ 0) where
       no-fault : firstOf (listRows (t .form) (screenIn t) (t .list)) ≡ 0
       no-fault = sym fault-of ∙ none-fault
 
-      pass-of : p ≡ passOf (screenIn t) (length (t .words)) (commandsIn t)
-      pass-of = p-is ∙ ap (λ (x : Screen). passOf x (length (t .words)) (commandsIn t)) fields
+      pass-of : p ≡ passOf m (screenIn t) (length (t .words)) (commandsIn t)
+      pass-of = p-is ∙ ap (λ (x : Screen). passOf m x (length (t .words)) (commandsIn t)) fields
 
-      refusal-of : firstRefusal (screenIn t) 0 (length (t .words)) (commandsIn t) ≡ record { number = p .number; place = p .place }
-      refusal-of = pass-refusal (screenIn t) (length (t .words)) (commandsIn t) p pass-of
+      refusal-of : firstRefusal m (screenIn t) 0 (length (t .words)) (commandsIn t) ≡ record { number = p .number; place = p .place }
+      refusal-of = pass-refusal m (screenIn t) (length (t .words)) (commandsIn t) p pass-of
 
       pub told-command : (p .number ≡ 0 → ⊥) → Told m t old (Refused (p .number) (p .place)) old
       told-command h = task-told m t old (p .number) (p .place) (omega arith) (by-command m t rows-pass no-fault (p .number) (p .place) (omega arith) refusal-of)
 
       module _ (z : p .number ≡ 0) where
-        none-refused : firstRefusal (screenIn t) 0 (length (t .words)) (commandsIn t) .number ≡ 0
+        none-refused : firstRefusal m (screenIn t) 0 (length (t .words)) (commandsIn t) .number ≡ 0
         none-refused = ap (λ (r : Refusal). r .number) refusal-of ∙ z
 
         words-are : p .used ≡ allWords (screenIn t) (commandsIn t)
-        words-are = pass-words (screenIn t) (length (t .words)) (commandsIn t) p pass-of z
+        words-are = pass-words m (screenIn t) (length (t .words)) (commandsIn t) p pass-of z
 
         -- the last check of the task decides
         end-is : (n : ℕ) → n ≡ firstOf (wordRows t) → taskRefusal m t ≡ record { number = n; place = 0 }
@@ -150,7 +150,7 @@ module _ (m : ℕ) (t : Task) (old : List ℕ) where
 
         -- the size as the code has it
         whole-size : 48 + 72 * (length (t .list) / t .form) + 8 * p .used ≡ 8 * length (recordsIn t)
-        whole-size = omega (arith, size-is (screenIn t) (commandsIn t) (t .words) none-refused, words-are, length-parts (t .form) (t .list))
+        whole-size = omega (arith, size-is m (screenIn t) (commandsIn t) (t .words) none-refused, words-are, length-parts (t .form) (t .list))
 
         module _ (w : length (t .words) ≤ p .used) where
           -- row 17 decides
@@ -165,7 +165,7 @@ module _ (m : ℕ) (t : Task) (old : List ℕ) where
           module _ (h : 48 + 72 * (length (t .list) / t .form) + 8 * p .used ≤ length old) where
             -- what the second pass asks, the screen's records being stored
             pub second-asks : (l1 : List ℕ) → l1 ≡ sets old 0 (streamBytes (screenRecords s))
-                → (isForm (t .form) ≡ true) × ((firstRefusal s 0 (length (t .words)) (commandsIn t) .number ≡ 0) × (48 + 8 * length (drawRecords s (t .words) (commandsIn t)) ≤ length l1))
+                → (isForm (t .form) ≡ true) × ((firstRefusal m s 0 (length (t .words)) (commandsIn t) .number ≡ 0) × (48 + 8 * length (drawRecords s (t .words) (commandsIn t)) ≤ length l1))
             unfolding recordsFor
             second-asks l1 e =
                 let k = length-append (screenRecords (screenIn t)) (drawRecords (screenIn t) (t .words) (commandsIn t)) in

@@ -34,7 +34,7 @@ command-stored s c at l words values e f g =
     g ∙ ap (λ (b : List ℕ). sets b (at + 72) (streamBytes (dataRecords words))) (f ∙ ap (λ (v : List ℕ). sets l at (streamBytes (recordsWith blitRegisters v))) e)
     ∙ sym (stored-both l at (recordsWith blitRegisters (blitValues s c)) (dataRecords words) ∙ (rw n))
 
-module _ (s : Screen) (size : ℕ) (list words : List ℕ) where
+module _ (m : ℕ) (s : Screen) (size : ℕ) (list words : List ℕ) where
   -- the records from command i on, with the host words from `used` on
   abbrev pub recordsAt : ℕ → ℕ → ℕ → List Record
   recordsAt count i used = drawRecords s (drop used words) (rest size list count i)
@@ -44,11 +44,11 @@ module _ (s : Screen) (size : ℕ) (list words : List ℕ) where
     pub within : i ≤ count
     pub taken : used ≤ length words
     pub same : length buffer ≡ length buffer₀
-    pub fine : AllFine s (length words - used) (rest size list count i)
+    pub fine : AllFine m s (length words - used) (rest size list count i)
     pub room : at + 8 * length (recordsAt count i used) ≤ length buffer
     pub stored : sets buffer₀ 48 (streamBytes (drawRecords s words (partsOf size list))) ≡ sets buffer at (streamBytes (recordsAt count i used))
 
-  pub writing-start : (buffer : List ℕ) → firstRefusal s 0 (length words) (partsOf size list) .number ≡ 0 → 48 + 8 * length (drawRecords s words (partsOf size list)) ≤ length buffer → Writing buffer buffer (length list / size) 0 0 48
+  pub writing-start : (buffer : List ℕ) → firstRefusal m s 0 (length words) (partsOf size list) .number ≡ 0 → 48 + 8 * length (drawRecords s words (partsOf size list)) ≤ length buffer → Writing buffer buffer (length list / size) 0 0 48
   unfolding partsOf
   writing-start buffer p q =
       record {
@@ -56,12 +56,12 @@ module _ (s : Screen) (size : ℕ) (list words : List ℕ) where
         within = omega arith;
         taken = omega arith;
         same = refl;
-        fine = rw (sub-zero, sub-zero) (all-fine s 0 (length words) (partsOf size list) p);
+        fine = rw (sub-zero, sub-zero) (all-fine m s 0 (length words) (partsOf size list) p);
         room = rw sub-zero q;
         stored = rw sub-zero;
       }
 
-  fine-step : (left : ℕ) (b : List ℕ) (bs : List (List ℕ)) → AllFine s left (b ∷ bs) → Fine s left (commandOf b) × AllFine s (left - wordsTaken s (commandOf b)) bs
+  fine-step : (left : ℕ) (b : List ℕ) (bs : List (List ℕ)) → AllFine m s left (b ∷ bs) → Fine m s left (commandOf b) × AllFine m s (left - wordsTaken s (commandOf b)) bs
   unfolding AllFine
   fine-step left b bs a = a
 
@@ -75,7 +75,7 @@ module _ (s : Screen) (size : ℕ) (list words : List ℕ) where
 
   module _ (buffer₀ buffer : List ℕ) (count i used at : ℕ) (g : Writing buffer₀ buffer count i used at) where
     module _ (c : Command) (h : i < count) (e : c ≡ commandOf (partAt size list i)) where
-      steps : Fine s (length words - used) c × AllFine s (length words - used - wordsTaken s c) (rest size list count (i + 1))
+      steps : Fine m s (length words - used) c × AllFine m s (length words - used - wordsTaken s c) (rest size list count (i + 1))
       steps = rw e (fine-step (length words - used) (partAt size list i) (rest size list count (i + 1)) (rw (parts-step size list i count h) at (g .fine)))
 
       pub words-there : used + wordsTaken s c ≤ length words
@@ -100,7 +100,7 @@ module _ (s : Screen) (size : ℕ) (list words : List ℕ) where
       writing-turn : (new : List ℕ) → new ≡ sets buffer at (streamBytes (commandRecords s c (take (wordsTaken s c) (drop used words)))) → Writing buffer₀ new count (i + 1) (used + wordsTaken s c) (at + 72 + 8 * wordsTaken s c)
       writing-turn new f =
           let l : length new ≡ length buffer = ap (λ (b : List ℕ). length b) f ∙ length-sets buffer at (streamBytes (commandRecords s c (take (wordsTaken s c) (drop used words)))) in
-          let m : at + 8 * (9 + wordsTaken s c) ≡ at + 72 + 8 * wordsTaken s c = omega arith in
+          let move : at + 8 * (9 + wordsTaken s c) ≡ at + 72 + 8 * wordsTaken s c = omega arith in
           record {
             count-is = g .count-is;
             within = omega arith;
@@ -108,7 +108,7 @@ module _ (s : Screen) (size : ℕ) (list words : List ℕ) where
             same = l ∙ g .same;
             fine = rw (sub-add-eq (length words) used (wordsTaken s c)) (steps .1);
             room = omega (arith, g .room, l, step-length);
-            stored = g .stored ∙ (rw (records-step, stored-both, ← f, command-length, m));
+            stored = g .stored ∙ (rw (records-step, stored-both, ← f, command-length, move));
           }
 
       -- the same as the code has it, with n for the command's words and the part of the words from used to used + n
