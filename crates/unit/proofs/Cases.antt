@@ -23,8 +23,9 @@ use Rattle.chip.specs.Register.{listed, fits, screenAfter, blitAfter}
 use Rattle.chip.specs.Start.{startable, span, within, sourceFits, mixBy, fromBy, jobOf, writeOf, started}
 use Rattle.chip.specs.Admit.{admitRows, refusal as admit·refusal, dueAfter, dueOf, chipAfter, effect}
 use Rattle.chip.specs.Play.{newChip, run, applied, ending, playing, played}
-use Rattle.command.specs.Command.{commandOf, commandBytes, surfaceOf, mustBeZero, formed, insideImage, placed, lineWords, wordsTaken, commandRows, refusal}
-use Rattle.command.specs.Values.{addressOf, destinationOf, sourceOf, isNegative, lastColumn, lastLine, commandValue, sourceValue, destinationValue, controlValue, blitValues}
+use Rattle.command.specs.Sharing.{anyOf, shareByte}
+use Rattle.command.specs.Command.{commandOf, commandBytes, surfaceOf, addressOf, destinationOf, sourceOf, mustBeZero, patternFits, formed, insideImage, placed, clashes, lineWords, wordsTaken, commandRows, refusal}
+use Rattle.command.specs.Values.{isNegative, lastColumn, lastLine, commandValue, patternValue, sourceValue, destinationValue, controlValue, blitValues}
 use Rattle.record.specs.Lists.{partsFrom, partsOf}
 use Rattle.compiler.specs.Stream.{recordsWith, screenRecords, dataRecords, commandRecords, drawRecords, recordsFor}
 use Rattle.command.specs.Task.{listRows, firstRefusal, allWords, wordRows, taskRefusal}
@@ -36,7 +37,7 @@ use Rattle.unit.specs.Sheet.{sheetBit, sheetPixel, hostPixel as sheet·h
 use Rattle.unit.specs.Cases.{drawCases, pointCases, cases}
 
 pub cases-hold : allHold cases ≡ true
-unfolding allZero firstOf recordBytes streamBytes recordAt recordsFrom recordsOf isDepth getPixel putPixel byteOf bitwise imageEnd startOf fieldsOf wellFormed panelOk viewWidth viewHeight wholeDwords mainImage windowImage lineOk imageOk windowOk windowWhole fieldRows screenRows screenOf windowX windowY originOf valuesOf allHold screenCases lineCases pixels chipLine chipLines chipBlit wordPixel hostPixel chipWord listed fits screenAfter blitAfter startable span within sourceFits mixBy fromBy jobOf blitOf writeOf started admitRows admit·refusal dueAfter dueOf chipAfter effect newChip run applied ending playing played commandOf commandBytes surfaceOf mustBeZero formed insideImage placed lineWords wordsTaken commandRows refusal addressOf destinationOf sourceOf isNegative lastColumn lastLine commandValue sourceValue destinationValue controlValue blitValues partsFrom partsOf recordsWith screenRecords dataRecords commandRecords drawRecords recordsFor listRows firstRefusal allWords wordRows taskRefusal roomRows refusalOf compiling streamOf sheetPixel sheet·hostPixel sheetSource sheetMix newPixel changes sheetByte sheetCommand sheetCommands sheetAfter drawCases olderBytes olderValues olderRecords lentRows olderRows olderCompiling exampleCases olderCases viewPixel inWindow windowPixel walk inWindowBy cornerP cornerQ placeOf displayOf pixelBit sheetBit shownAddress shownPlace pointCases cases
+unfolding allZero firstOf recordBytes streamBytes recordAt recordsFrom recordsOf isDepth getPixel putPixel byteOf bitwise imageEnd startOf fieldsOf wellFormed panelOk viewWidth viewHeight wholeDwords mainImage windowImage lineOk imageOk windowOk windowWhole fieldRows screenRows screenOf windowX windowY originOf valuesOf allHold screenCases lineCases pixels chipLine chipLines chipBlit wordPixel hostPixel chipWord listed fits screenAfter blitAfter startable span within sourceFits mixBy fromBy jobOf blitOf writeOf started admitRows admit·refusal dueAfter dueOf chipAfter effect newChip run applied ending playing played commandOf commandBytes surfaceOf mustBeZero patternFits formed insideImage placed anyOf shareByte clashes lineWords wordsTaken commandRows refusal addressOf destinationOf sourceOf isNegative lastColumn lastLine commandValue patternValue sourceValue destinationValue controlValue blitValues partsFrom partsOf recordsWith screenRecords dataRecords commandRecords drawRecords recordsFor listRows firstRefusal allWords wordRows taskRefusal roomRows refusalOf compiling streamOf sheetPixel sheet·hostPixel sheetSource sheetMix newPixel changes sheetByte sheetCommand sheetCommands sheetAfter drawCases olderBytes olderValues olderRecords lentRows olderRows olderCompiling exampleCases olderCases viewPixel inWindow windowPixel walk inWindowBy cornerP cornerQ placeOf displayOf pixelBit sheetBit shownAddress shownPlace pointCases cases
 cases-hold = refl
 
 -- none is left out: ten of S1 to S9, thirty of line lengths, B1 on short and long lines and in the long form, B2 and B3; 001's eight examples and their registers, and

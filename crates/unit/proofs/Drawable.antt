@@ -82,12 +82,16 @@ module _ (m : ℕ) (s : Screen) (e : firstOf (fieldRows m s) ≡ 0) (flag : s .f
       chosen true q = main-surface
       chosen false q = window-surface (omega (arith, eqb-false (c .surface) 0 q))
 
-  -- a colour is a number of two bytes
+  -- a colour is a number of two bytes, and so is a key colour
   colour-fits : (b : List ℕ) → AllBelow 256 b → commandOf b .colour ≤ 65535
   unfolding commandOf
   colour-fits b h = omega (arith, h 16, h 17)
 
-  pub drawable : m ≤ 262144 → (left : ℕ) (b : List ℕ) → AllBelow 256 b → Fine s left (commandOf b) → Drawable m (s .depth / 8) s (commandOf b)
+  key-fits : (b : List ℕ) → AllBelow 256 b → commandOf b .key ≤ 65535
+  unfolding commandOf
+  key-fits b h = omega (arith, h 32, h 33)
+
+  pub drawable : m ≤ 262144 → (left : ℕ) (b : List ℕ) → AllBelow 256 b → Fine m s left (commandOf b) → Drawable m (s .depth / 8) s (commandOf b)
   drawable small left b bound f =
       let o = surface-ok (commandOf b) (f .surface) in
       record {
@@ -102,6 +106,10 @@ module _ (m : ℕ) (s : Screen) (e : firstOf (fieldRows m s) ≡ 0) (flag : s .f
         operation = f .operation;
         raster = f .raster;
         colour = colour-fits b bound;
+        key = key-fits b bound;
+        low-key = f .key;
+        pattern = f .pattern;
+        source-apart = f .source-apart;
         narrow = o .narrow;
         low = o .low;
         shown = o .shown;

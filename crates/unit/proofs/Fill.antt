@@ -12,8 +12,8 @@ use Rattle.blit.specs.declared.Mix.the-variants.{Store}
 use Rattle.blit.proofs.Direction.{given-is-painted}
 use Rattle.chip.specs.Start.{operation, bytesOf, foregroundOf, sourceFits, startable, within, mixBy, fromBy, jobOf, started}
 use Rattle.chip.specs.declared.Registers.{Registers}
-use Rattle.command.specs.Command.{surfaceOf}
-use Rattle.command.specs.Values.{addressOf, isNegative, lastColumn, lastLine, commandValue, sourceValue}
+use Rattle.command.specs.Command.{surfaceOf, addressOf, sourceOf}
+use Rattle.command.specs.Values.{isNegative, patternValue, lastColumn, lastLine, commandValue, sourceValue}
 use Rattle.command.specs.declared.Command.{Command}
 use Rattle.command.proofs.Operation.{by-fill}
 use Rattle.unit.proofs.Painted.{over, corner, filled}
@@ -25,15 +25,15 @@ module _ (m B : ℕ) (s : Screen) (c : Command) (d : Drawable m B s c) (e : c .o
 
   up : isNegative s c ≡ false
   unfolding isNegative
-  up = by-fill (c .operation) _ _ _ e
+  up = by-fill (c .operation) _ _ _ _ _ _ e
 
   value : commandValue s c ≡ 12 + 65536 * c .raster
   unfolding commandValue
-  value = ap (λ (k : ℕ). k + 65536 * c .raster) (by-fill (c .operation) _ _ _ e)
+  value = ap (λ (k : ℕ). k + 65536 * c .raster) (by-fill (c .operation) _ _ _ _ _ _ e)
 
   no-source : sourceValue s c ≤ 0x3FFFF
   unfolding sourceValue
-  no-source = omega (arith, by-fill (c .operation) 0 (addressOf (s .depth) (surfaceOf s c) (c .sx + lastColumn s c) (c .sy + lastLine s c)) 0 e)
+  no-source = rw (by-fill (c .operation) 0 (addressOf (s .depth) (surfaceOf s c) (c .sx + lastColumn s c) (c .sy + lastLine s c)) 0 (patternValue s c) (patternValue s c) (sourceOf s c) e) (omega arith)
 
   op : operation regs ≡ 12
   op = operation-is m B s c d 12 (lit< tt) value

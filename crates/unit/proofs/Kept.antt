@@ -35,7 +35,7 @@ use Rattle.unit.proofs.Drawable.{Surface, surface-ok, bytes}
 use Rattle.unit.proofs.Demands.{demand-3}
 
 -- ---- a command on the sheet
-module _ (m : ℕ) (s : Screen) (e : firstOf (fieldRows m s) ≡ 0) (flag : s .flag ≤ 1) (deep : 8 ≤ s .depth) (left : ℕ) (c : Command) (f : Fine s left c) where
+module _ (m : ℕ) (s : Screen) (e : firstOf (fieldRows m s) ≡ 0) (flag : s .flag ≤ 1) (deep : 8 ≤ s .depth) (left : ℕ) (c : Command) (f : Fine m s left c) where
   abbrev on : Image
   on = surfaceOf s c
 
@@ -102,14 +102,14 @@ module _ (screen : List ℕ) (left : ℕ) (b words sheet : List ℕ) (a : ℕ) (
   fit-keeps : let s = fieldsOf screen in isShown (s .depth) (surfaceOf s (commandOf b)) a ≡ false → byteAt (sheetCommand s (commandOf b) words sheet) a ≡ byteAt sheet a
   fit-keeps h =
       let r = read-accepted memorySize screen (fieldsOf screen) (sym (accepts memorySize screen (f .accepted))) in
-      command-keeps memorySize (fieldsOf screen) (r .2) (r .3) (f .deep) left (commandOf b) (fine (fieldsOf screen) left b (f .not-refused)) words sheet a h
+      command-keeps memorySize (fieldsOf screen) (r .2) (r .3) (f .deep) left (commandOf b) (fine memorySize (fieldsOf screen) left b (f .not-refused)) words sheet a h
 
   gap-keeps : let s = fieldsOf screen in inGap (s .depth) (surfaceOf s (commandOf b)) a ≡ true → byteAt (sheetCommand s (commandOf b) words sheet) a ≡ byteAt sheet a
   gap-keeps h = fit-keeps (gap-not-shown (fieldsOf screen .depth) (surfaceOf (fieldsOf screen) (commandOf b)) a h)
 
 -- ---- a list
 list-keeps : (m : ℕ) (s : Screen) → firstOf (fieldRows m s) ≡ 0 → s .flag ≤ 1 → (commands : List (List ℕ)) → (0 < length commands → 8 ≤ s .depth)
-    → (left : ℕ) → AllFine s left commands → (words old : List ℕ) (a : ℕ) → outside s commands a ≡ true
+    → (left : ℕ) → AllFine m s left commands → (words old : List ℕ) (a : ℕ) → outside s commands a ≡ true
     → byteAt (sheetCommands s commands words old) a ≡ byteAt old a
 unfolding AllFine sheetCommands outside
 list-keeps m s e flag [] deep left fines words old a h = refl

@@ -85,15 +85,15 @@ line-words d B width h t =
 -- the words that each operation takes
 fill-words : (s : Screen) (c : Command) → c .operation ≡ 0 → wordsTaken s c ≡ 0
 unfolding wordsTaken
-fill-words s c e = by-fill (c .operation) _ _ _ e
+fill-words s c e = by-fill (c .operation) _ _ _ _ _ _ e
 
 move-words : (s : Screen) (c : Command) → c .operation ≡ 1 → wordsTaken s c ≡ 0
 unfolding wordsTaken
-move-words s c e = by-move (c .operation) _ _ _ e
+move-words s c e = by-move (c .operation) _ _ _ _ _ _ e
 
 write-words : (s : Screen) (c : Command) → c .operation ≡ 2 → wordsTaken s c ≡ lineWords (s .depth) (c .width) * c .height
 unfolding wordsTaken
-write-words s c e = by-write (c .operation) _ _ _ e
+write-words s c e = by-write (c .operation) _ _ _ _ _ _ e
 
 module _ (m B : ℕ) (s : Screen) (c : Command) (d : Drawable m B s c) (chip : Chip) (idle : chip .due .any ≡ false) where
   abbrev regs : Registers
@@ -179,7 +179,7 @@ unfolding sheetCommand
 length-sheet s c words old = length-tabulate (length old) (sheetByte s c words old)
 
 module _ (m : ℕ) (s : Screen) (e : firstOf (fieldRows m s) ≡ 0) (flag : s .flag ≤ 1) (small : m ≤ 262144) where
-  pub list-ends : (commands : List (List ℕ)) → (0 < length commands → 8 ≤ s .depth) → (words : List ℕ) → AllFine s (length words) commands → EachBelow 256 commands → AllBelow 65536 words
+  pub list-ends : (commands : List (List ℕ)) → (0 < length commands → 8 ≤ s .depth) → (words : List ℕ) → AllFine m s (length words) commands → EachBelow 256 commands → AllBelow 65536 words
       → length words ≡ allWords s commands → (chip : Chip) → chip .due .any ≡ false → (old : List ℕ) → length old ≡ m
       → Ends m chip (drawRecords s words commands) old (sheetCommands s commands words old)
   unfolding AllFine EachBelow allWords drawRecords sheetCommands
@@ -191,5 +191,5 @@ module _ (m : ℕ) (s : Screen) (e : firstOf (fieldRows m s) ≡ 0) (flag : s .f
       let left : length (drop n words) ≡ length words - n = length-drop n words in
       let first = command-ends m (s .depth / 8) s (commandOf b) (drawable m s e flag d8 small (length words) b (bytes .0) (fine .0)) chip idle (take n words) old (below-take 65536 n words few) taken len in
       ends-append m chip _ _ old (sheetCommand s (commandOf b) (take n words) old) _ first
-      (list-ends bs (λ h. d8) (drop n words) (subst (λ (k : ℕ). AllFine s k bs) (sym left) (fine .1)) (bytes .1) (below-drop 65536 n words few) (omega (arith, left, count)) (first .chip) (first .idle)
+      (list-ends bs (λ h. d8) (drop n words) (subst (λ (k : ℕ). AllFine m s k bs) (sym left) (fine .1)) (bytes .1) (below-drop 65536 n words few) (omega (arith, left, count)) (first .chip) (first .idle)
       (sheetCommand s (commandOf b) (take n words) old) (length-sheet s (commandOf b) (take n words) old ∙ len))

@@ -1,6 +1,8 @@
 -- A move that is not refused, in either direction: the chip starts it, and does to the memory what the sheet says.
 use mathlib.Core.Path.{_≡_, refl, sym, ap, ap₂, _∙_}
 use mathlib.Core.Bool.{Bool, true, false, _&&_, cond}
+use mathlib.Core.Logic.{inl}
+use mathlib.Core.List.{List}
 use Prim.Native.Nat.{ℕ, _+_, _*_, _<_}
 use native.Mathlib.Omega.{arith}
 use lib.Dec.{eqb, ltb, lit<}
@@ -8,13 +10,14 @@ use Rattle.screen.specs.declared.Image.{Image}
 use Rattle.screen.specs.declared.Screen.{Screen}
 use Rattle.blit.specs.Blit.{Blit, memory, chipBlit, towards, starting}
 use Rattle.blit.specs.Job.{mixOf, sourceOf as blit·sourceOf, blitOf, performed}
+use Rattle.blit.specs.declared.From.{From}
 use Rattle.blit.specs.declared.Mix.{Mix}
 use Rattle.blit.specs.declared.Mix.the-variants.{Raster}
 use Rattle.blit.proofs.Direction.{chip-is-painted}
 use Rattle.chip.specs.Start.{byBlit, operation, bytesOf, sourceFits, startable, within, mixBy, fromBy, jobOf, started}
 use Rattle.chip.specs.declared.Registers.{Registers}
-use Rattle.command.specs.Command.{surfaceOf}
-use Rattle.command.specs.Values.{destinationOf, sourceOf, isNegative, commandValue}
+use Rattle.command.specs.Command.{surfaceOf, destinationOf, sourceOf}
+use Rattle.command.specs.Values.{isNegative, commandValue}
 use Rattle.command.specs.declared.Command.{Command}
 use Rattle.command.proofs.Operation.{by-move}
 use Rattle.unit.proofs.Painted.{over, corner, moved}
@@ -28,9 +31,9 @@ move-number : (t : Bool) → moveNumber t < 16
 move-number true = lit< tt
 move-number false = lit< tt
 
-at-move : {A : Type 0} (t : Bool) (write up down fill other : A) → byBlit (moveNumber t) write up down fill other ≡ cond t down up
-at-move true write up down fill other = refl
-at-move false write up down fill other = refl
+at-move : {A : Type 0} (t : Bool) (write up down transparent pattern keyed fill other : A) → byBlit (moveNumber t) write up down transparent pattern keyed fill other ≡ cond t down up
+at-move true write up down transparent pattern keyed fill other = refl
+at-move false write up down transparent pattern keyed fill other = refl
 
 is-down : (t : Bool) → eqb (moveNumber t) 3 ≡ t
 is-down true = refl
@@ -53,25 +56,26 @@ module _ (m B : ℕ) (s : Screen) (c : Command) (d : Drawable m B s c) (e : c .o
 
   value : commandValue s c ≡ moveNumber t + 65536 * c .raster
   unfolding commandValue
-  value = ap (λ (k : ℕ). k + 65536 * c .raster) (by-move (c .operation) _ _ _ e ∙ ap (λ (u : Bool). cond u 3 2) way)
+  value = ap (λ (k : ℕ). k + 65536 * c .raster) (by-move (c .operation) _ _ _ _ _ _ e ∙ ap (λ (u : Bool). cond u 3 2) way)
 
   op : operation regs ≡ moveNumber t
   op = operation-is m B s c d (moveNumber t) (move-number t) value
 
   -- the cell of a table of the chip's operations
-  cell : {A : Type 0} (write up down fill other : A) → byBlit (operation regs) write up down fill other ≡ cond t down up
-  cell write up down fill other = ap (λ (n : ℕ). byBlit n write up down fill other) op ∙ at-move t write up down fill other
+  cell : {A : Type 0} (write up down transparent pattern keyed fill other : A) → byBlit (operation regs) write up down transparent pattern keyed fill other ≡ cond t down up
+  cell write up down transparent pattern keyed fill other =
+      ap (λ (n : ℕ). byBlit n write up down transparent pattern keyed fill other) op ∙ at-move t write up down transparent pattern keyed fill other
 
-  either-way : {A : Type 0} (write move fill other : A) → byBlit (operation regs) write move move fill other ≡ move
-  either-way write move fill other = cell write move move fill other ∙ same t move
+  either-way : {A : Type 0} (write move transparent pattern keyed fill other : A) → byBlit (operation regs) write move move transparent pattern keyed fill other ≡ move
+  either-way write move transparent pattern keyed fill other = cell write move move transparent pattern keyed fill other ∙ same t move
 
   can : startable regs ≡ true
   unfolding startable sourceFits
-  can = rw (either-way, source-whole m B s c d t way e, destination-whole m B s c d t way) refl
+  can = rw (either-way, source-whole m B s c d t way (inl e), destination-whole m B s c d t way) refl
 
   inside : within m regs ≡ true
   unfolding within
-  inside = cell _ _ _ _ _ ∙ both-reach t _ _ _ _ (destination-reaches m B s c d t way) (source-reaches m B s c d t way e)
+  inside = cell _ _ _ _ _ _ _ _ ∙ both-reach t _ _ _ _ (destination-reaches m B s c d t way) (source-reaches m B s c d t way (inl e))
 
   -- the move from the upper left pixels
   abbrev move : Blit
@@ -81,7 +85,7 @@ module _ (m B : ℕ) (s : Screen) (c : Command) (d : Drawable m B s c) (e : c .o
   unfolding isNegative sourceOf destinationOf
   order =
       ap₂ ltb (sym (address-is (s .depth) B on (c .sx) (c .sy) (d .deep))) (sym (address-is (s .depth) B on (c .x) (c .y) (d .deep)))
-      ∙ sym (by-move (c .operation) _ _ _ e)
+      ∙ sym (by-move (c .operation) _ _ _ _ _ _ e)
       ∙ way
 
   -- the registers' blit is the move as the chip is given it in its direction
@@ -96,18 +100,18 @@ module _ (m B : ℕ) (s : Screen) (c : Command) (d : Drawable m B s c) (e : c .o
   mix-is : mixOf (mixBy regs) (bytesOf regs) ≡ mixOf (Raster (c .raster)) B
   unfolding mixBy
   mix-is =
-      ap (λ (x : Mix). mixOf x (bytesOf regs)) (either-way _ _ _ _)
+      ap (λ (x : Mix). mixOf x (bytesOf regs)) (either-way _ _ _ _ _ _ _)
       ∙ (λ k. mixOf (Raster (code-is m B s c d (moveNumber t) (move-number t) value k)) (bytes-is m B s c d k))
 
-  from-is : blit·sourceOf (fromBy regs) ≡ memory (source-corner m B s c d + shift m B s c d t)
+  from-is : (bytes : ℕ) (old : List ℕ) → blit·sourceOf (fromBy regs) bytes old ≡ memory (source-corner m B s c d + shift m B s c d t)
   unfolding fromBy
-  from-is = ap blit·sourceOf (either-way _ _ _ _) ∙ ap memory (source-is m B s c d t way e)
+  from-is bytes old = ap (λ (f : From). blit·sourceOf f bytes old) (either-way _ _ _ _ _ _ _) ∙ ap memory (source-is m B s c d t way (inl e))
 
-  job-is : blitOf (jobOf regs) ≡ starting (towards t) move
+  job-is : (old : List ℕ) → blitOf (jobOf regs) (blit·sourceOf (jobOf regs .from) (jobOf regs .bytes) old) ≡ starting (towards t) move
   unfolding jobOf blitOf
-  job-is =
-      read-back m B s c d (mixOf (mixBy regs) (bytesOf regs)) (mixOf (Raster (c .raster)) B) (blit·sourceOf (fromBy regs)) (memory (source-corner m B s c d + shift m B s c d t))
-      (corner s c B + shift m B s c d t) mix-is from-is (destination-is m B s c d t way)
+  job-is old =
+      read-back m B s c d (mixOf (mixBy regs) (bytesOf regs)) (mixOf (Raster (c .raster)) B) (blit·sourceOf (fromBy regs) (bytesOf regs) old) (memory (source-corner m B s c d + shift m B s c d t))
+      (corner s c B + shift m B s c d t) mix-is (from-is (bytesOf regs) old) (destination-is m B s c d t way)
       ∙ sym (started-at t)
 
   down-is : jobOf regs .down ≡ t
@@ -117,9 +121,8 @@ module _ (m B : ℕ) (s : Screen) (c : Command) (d : Drawable m B s c) (e : c .o
   drawn : AtOnce m B s c d
   unfolding started
   drawn words old len =
-      cell old (performed (jobOf regs) old) (performed (jobOf regs) old) (performed (jobOf regs) old) old
-      ∙ same t (performed (jobOf regs) old)
-      ∙ ap₂ (λ (b : Blit) (u : Bool). chipBlit b (towards u) old) job-is down-is
+      either-way old (performed (jobOf regs) old) (performed (jobOf regs) old) (performed (jobOf regs) old) (performed (jobOf regs) old) (performed (jobOf regs) old) old
+      ∙ ap₂ (λ (b : Blit) (u : Bool). chipBlit b (towards u) old) (job-is old) down-is
       ∙ ap (λ (u : Bool). chipBlit (starting (towards u) move) (towards u) old) (sym order)
       ∙ chip-is-painted move old (fits-over m B s c d (mixOf (Raster (c .raster)) B) (memory (source-corner m B s c d)) old len) (source-corner m B s c d) refl
       ∙ moved s c words old B (d .deep) (d .size) (room m B s c d) e
@@ -127,7 +130,7 @@ module _ (m B : ℕ) (s : Screen) (c : Command) (d : Drawable m B s c) (e : c .o
   pub move-starts : Starts m s c (moveNumber t) (AtOnce m B s c d)
   move-starts =
       record {
-        fields = fields-of m B s c d t way (moveNumber t) (move-number t) value (source-fits m B s c d t way e);
+        fields = fields-of m B s c d t way (moveNumber t) (move-number t) value (source-fits m B s c d t way (inl e));
         operation = op;
         startable = can;
         within = inside;

@@ -2,7 +2,7 @@
 use mathlib.Core.Path.{_≡_, refl, sym, ap, ap₂, _∙_}
 use mathlib.Core.Bool.{Bool, true, false, cond, true≢false}
 use mathlib.Core.List.{List}
-use mathlib.Core.Logic.{_⊎_, ⊎-elim}
+use mathlib.Core.Logic.{_⊎_, inl, inr, ⊎-elim}
 use Prim.Native.Nat.{ℕ, _+_, _-_, _*_, _/_, _%_, _≤_, _<_}
 use native.Mathlib.Omega.{arith}
 use native.Mathlib.Nat.{div-one, mod-eq-of-lt}
@@ -14,19 +14,20 @@ use Rattle.record.proofs.Lists.{tabulate-ext}
 use Rattle.pixel.specs.Pixel.{getPixel, byteOf}
 use Rattle.pixel.specs.Raster.{raster}
 use Rattle.pixel.proofs.Pixels.{get-one, get-two}
+use Rattle.screen.specs.Image.{lineBytes}
 use Rattle.screen.specs.declared.Image.{Image}
 use Rattle.screen.specs.declared.Screen.{Screen}
 use Rattle.view.specs.View.{pixelAt}
 use Rattle.blit.specs.Blit.{Blit, Source, given, memory, positive, sourcePixel}
 use Rattle.blit.specs.Rectangle.{row, column, lane, inside, paintedPixel, paintedByte, painted}
-use Rattle.blit.specs.Job.{mixOf}
+use Rattle.blit.specs.Job.{mixOf, patternPixel}
 use Rattle.blit.specs.declared.Mix.{Mix}
-use Rattle.blit.specs.declared.Mix.the-variants.{Store, Raster}
+use Rattle.blit.specs.declared.Mix.the-variants.{Store, Raster, Key}
 use Rattle.blit.specs.Words.{wordPixel, hostPixel}
 use Rattle.command.specs.Command.{surfaceOf, lineWords}
 use Rattle.command.specs.declared.Command.{Command}
-use Rattle.command.proofs.Operation.{by-fill, by-move, by-write, not-fill}
-use Rattle.unit.specs.Sheet.{sheetPixel, sheetSource, sheetMix, newPixel, changes, sheetByte, sheetCommand, hostPixel as sheet·hostPixel}
+use Rattle.command.proofs.Operation.{by-fill, by-move, by-write, by-pattern, by-keyed, by-transparent}
+use Rattle.unit.specs.Sheet.{sheetPixel, sheetSource, sheetMix, newPixel, changes, sheetByte, sheetCommand, hostPixel as sheet·hostPixel, patternImage, patternPixel as sheet·patternPixel}
 use Rattle.unit.proofs.Rectangles.{Frame, At, insideOwn, insideSurface, same-inside, from-own, own-line, own-column, own-lane, surface-line, surface-column, surface-lane}
 
 -- equal tests, and equal values where they hold
@@ -184,24 +185,68 @@ module _ (s : Screen) (c : Command) (words old : List ℕ) (B : ℕ) (deep : s .
   -- ---- what source and destination make
   fill-mix : c .operation ≡ 0 → (x y : ℕ) → mixOf Store B x y ≡ sheetMix s c x y
   unfolding sheetMix
-  fill-mix e x y = sym (by-fill (c .operation) _ _ _ e)
+  fill-mix e x y = sym (by-fill (c .operation) _ _ _ _ _ _ e)
 
-  pub raster-mix : (c .operation ≡ 0 → ⊥) → (x y : ℕ) → mixOf (Raster (c .raster)) B x y ≡ sheetMix s c x y
-  unfolding sheetMix
-  raster-mix n x y = sym (not-fill (c .operation) (raster (s .depth) (c .raster) x y) x n ∙ ap (λ (k : ℕ). raster k (c .raster) x y) deep)
+  -- under the raster code, where the operation's cell is that
+  module _ (x y : ℕ) where
+    coded : raster (s .depth) (c .raster) x y ≡ mixOf (Raster (c .raster)) B x y
+    coded = ap (λ (k : ℕ). raster k (c .raster) x y) deep
+
+    move-mix : c .operation ≡ 1 → mixOf (Raster (c .raster)) B x y ≡ sheetMix s c x y
+    unfolding sheetMix
+    move-mix e = sym (by-move (c .operation) _ _ _ _ _ _ e ∙ coded)
+
+    write-mix : c .operation ≡ 2 → mixOf (Raster (c .raster)) B x y ≡ sheetMix s c x y
+    unfolding sheetMix
+    write-mix e = sym (by-write (c .operation) _ _ _ _ _ _ e ∙ coded)
+
+    pattern-mix : c .operation ≡ 3 → mixOf (Raster (c .raster)) B x y ≡ sheetMix s c x y
+    unfolding sheetMix
+    pattern-mix e = sym (by-pattern (c .operation) _ _ _ _ _ _ e ∙ coded)
+
+    -- unless the source is the key
+    keyed-mix : c .operation ≡ 4 → mixOf (Key (c .key)) B x y ≡ sheetMix s c x y
+    unfolding sheetMix
+    keyed-mix e = sym (by-keyed (c .operation) _ _ _ _ _ _ e)
+
+    transparent-mix : c .operation ≡ 5 → mixOf (Key (c .key)) B x y ≡ sheetMix s c x y
+    unfolding sheetMix
+    transparent-mix e = sym (by-transparent (c .operation) _ _ _ _ _ _ e)
 
   -- ---- the source pixels
   fill-source : c .operation ≡ 0 → (i j : ℕ) → c .colour ≡ sheetSource s c words old i j
   unfolding sheetSource
-  fill-source e i j = sym (by-fill (c .operation) _ _ _ e)
+  fill-source e i j = sym (by-fill (c .operation) _ _ _ _ _ _ e)
 
   move-source : c .operation ≡ 1 → (i j : ℕ) → getPixel B old (on .base + (c .sy * on .line + c .sx * B) + (j * on .line + i * B)) ≡ sheetSource s c words old i j
   unfolding sheetSource
-  move-source e i j = sym (by-move (c .operation) _ _ _ e ∙ held (c .sx) (c .sy) i j)
+  move-source e i j = sym (by-move (c .operation) _ _ _ _ _ _ e ∙ held (c .sx) (c .sy) i j)
+
+  transparent-source : c .operation ≡ 5 → (i j : ℕ) → getPixel B old (on .base + (c .sy * on .line + c .sx * B) + (j * on .line + i * B)) ≡ sheetSource s c words old i j
+  unfolding sheetSource
+  transparent-source e i j = sym (by-transparent (c .operation) _ _ _ _ _ _ e ∙ held (c .sx) (c .sy) i j)
+
+  -- a pattern's pixel, from its address and from its image
+  of-pattern : (i j : ℕ) → patternPixel B old (c .pattern) (c .px + i) (c .py + j) ≡ sheet·patternPixel (s .depth) c old i j
+  unfolding patternPixel sheet·patternPixel
+  of-pattern i j =
+      let u = (c .px + i) % 8 in
+      let v = (c .py + j) % 8 in
+      let at : c .pattern + (v * 8 + u) * B ≡ c .pattern + (v * lineBytes (s .depth) 8 + u * B) =
+      ⊎-elim
+      (λ e. rw e (omega (arith, ap (λ (n : ℕ). v * (8 * n / 8)) deep, ap (λ (n : ℕ). v * (8 * (8 * n) / 8)) e)))
+      (λ e. rw e (omega (arith, ap (λ (n : ℕ). v * (8 * n / 8)) deep, ap (λ (n : ℕ). v * (8 * (8 * n) / 8)) e)))
+      size in
+      ap (getPixel B old) at ∙ sym (sheet-get (s .depth) B deep size (patternImage (s .depth) c) old u v)
+
+  pattern-source : (c .operation ≡ 3) ⊎ (c .operation ≡ 4) → (i j : ℕ) → patternPixel B old (c .pattern) (c .px + i) (c .py + j) ≡ sheetSource s c words old i j
+  unfolding sheetSource
+  pattern-source e i j =
+      of-pattern i j ∙ ⊎-elim (λ z. sym (by-pattern (c .operation) _ _ _ _ _ _ z)) (λ z. sym (by-keyed (c .operation) _ _ _ _ _ _ z)) e
 
   write-source : c .operation ≡ 2 → ((k : ℕ) → getD words k 0 < 65536) → (i j : ℕ) → hostPixel B (c .width) words i j ≡ sheetSource s c words old i j
   unfolding sheetSource
-  write-source e few i j = sym (by-write (c .operation) _ _ _ e ∙ host-is (s .depth) B deep size (c .width) words few i j)
+  write-source e few i j = sym (by-write (c .operation) _ _ _ _ _ _ e ∙ host-is (s .depth) B deep size (c .width) words few i j)
 
   -- ---- each operation
   module _ (room : (c .x + c .width) * B ≤ on .line) where
@@ -212,9 +257,24 @@ module _ (s : Screen) (c : Command) (words old : List ℕ) (B : ℕ) (deep : s .
     -- a move: source and destination pixel under the raster code
     pub moved : c .operation ≡ 1
         → painted (over s c B (mixOf (Raster (c .raster)) B) (memory (on .base + (c .sy * on .line + c .sx * B)))) old ≡ sheetCommand s c words old
-    moved e = drawn-as room (Raster (c .raster)) (memory (on .base + (c .sy * on .line + c .sx * B))) (raster-mix (λ z. omega arith)) (move-source e)
+    moved e = drawn-as room (Raster (c .raster)) (memory (on .base + (c .sy * on .line + c .sx * B))) (λ x y. move-mix x y e) (move-source e)
+
+    -- a pattern fill: the pattern's pixels, with the destination's under the raster code, or unless they are the key
+    abbrev pub pattern : Source
+    pattern = given (λ i j. patternPixel B old (c .pattern) (c .px + i) (c .py + j))
+
+    pub hatched : c .operation ≡ 3 → painted (over s c B (mixOf (Raster (c .raster)) B) pattern) old ≡ sheetCommand s c words old
+    hatched e = drawn-as room (Raster (c .raster)) pattern (λ x y. pattern-mix x y e) (pattern-source (inl e))
+
+    pub keyed : c .operation ≡ 4 → painted (over s c B (mixOf (Key (c .key)) B) pattern) old ≡ sheetCommand s c words old
+    keyed e = drawn-as room (Key (c .key)) pattern (λ x y. keyed-mix x y e) (pattern-source (inr e))
+
+    -- a transparent move: a move's source, unless it is the key
+    pub seen : c .operation ≡ 5
+        → painted (over s c B (mixOf (Key (c .key)) B) (memory (on .base + (c .sy * on .line + c .sx * B)))) old ≡ sheetCommand s c words old
+    seen e = drawn-as room (Key (c .key)) (memory (on .base + (c .sy * on .line + c .sx * B))) (λ x y. transparent-mix x y e) (transparent-source e)
 
     -- a write: the host words' pixels and the destination's under the raster code
     pub written : c .operation ≡ 2 → ((k : ℕ) → getD words k 0 < 65536)
         → painted (over s c B (mixOf (Raster (c .raster)) B) (given (hostPixel B (c .width) words))) old ≡ sheetCommand s c words old
-    written e few = drawn-as room (Raster (c .raster)) (given (hostPixel B (c .width) words)) (raster-mix (λ z. omega arith)) (write-source e few)
+    written e few = drawn-as room (Raster (c .raster)) (given (hostPixel B (c .width) words)) (λ x y. write-mix x y e) (write-source e few)

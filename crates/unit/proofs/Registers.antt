@@ -3,7 +3,7 @@
 use mathlib.Core.Path.{_≡_, refl, sym, ap, ap₂, _∙_}
 use mathlib.Core.Bool.{Bool, true, false, cond}
 use mathlib.Core.List.{List}
-use mathlib.Core.Logic.{⊎-elim}
+use mathlib.Core.Logic.{_⊎_, ⊎-elim}
 use Prim.Native.Nat.{ℕ, _+_, _-_, _*_, _/_, _%_, _≤_, _<_}
 use native.Mathlib.Omega.{arith}
 use native.Mathlib.Nat.{mul-le-mul-right, mod-eq-of-lt}
@@ -18,10 +18,13 @@ use Rattle.chip.specs.Register.{controlFits, commandFits}
 use Rattle.chip.proofs.Commands.{InFields}
 use Rattle.chip.specs.Start.{operation, rasterCode, bytesOf, sourceOf as chip·sourceOf, destinationOf as chip·destinationOf, lineOf, widthOf, heightOf, wholeAt, startable, span, forward, backward, within, started}
 use Rattle.chip.specs.declared.Registers.{Registers}
-use Rattle.command.specs.Command.{surfaceOf}
-use Rattle.command.specs.Values.{addressOf, isNegative, lastColumn, lastLine, commandValue, sourceValue, destinationValue, controlValue, usedValue, uses}
+use Rattle.command.specs.Command.{surfaceOf, addressOf, destinationOf, sourceOf, rectangleAt, patternAt}
+use Rattle.command.specs.Sharing.{shareByte}
+use Rattle.command.specs.Values.{isNegative, lastColumn, lastLine, commandValue, sourceValue, destinationValue, controlValue, usedValue, uses}
 use Rattle.command.specs.declared.Command.{Command}
-use Rattle.command.proofs.Operation.{by-move}
+use Rattle.command.proofs.Operation.{by-move, by-transparent}
+use Rattle.command.proofs.Values.{source-is as source-used}
+use Rattle.command.proofs.Fine.{Moves, Patterned, PatternIn}
 use Rattle.unit.specs.Sheet.{sheetCommand}
 use Rattle.unit.proofs.Painted.{OneOrTwo, over, corner}
 
@@ -33,11 +36,16 @@ pub record Drawable (m B : ℕ) (s : Screen) (c : Command) : Type 0 where
   pub height : 0 < c .height
   pub right : c .x + c .width ≤ surfaceOf s c .width
   pub bottom : c .y + c .height ≤ surfaceOf s c .height
-  pub source-right : c .operation ≡ 1 → c .sx + c .width ≤ surfaceOf s c .width
-  pub source-bottom : c .operation ≡ 1 → c .sy + c .height ≤ surfaceOf s c .height
-  pub operation : c .operation ≤ 2
+  pub source-right : Moves c → c .sx + c .width ≤ surfaceOf s c .width
+  pub source-bottom : Moves c → c .sy + c .height ≤ surfaceOf s c .height
+  pub operation : c .operation ≤ 5
   pub raster : c .raster ≤ 15
   pub colour : c .colour ≤ 65535
+  pub key : c .key ≤ 65535
+  pub low-key : s .depth ≡ 8 → c .key ≤ 255
+  pub pattern : Patterned c → PatternIn m s c
+  pub source-apart : c .operation ≡ 5
+      → (destinationOf s c ≤ sourceOf s c) ⊎ (shareByte (rectangleAt s c (sourceOf s c)) (rectangleAt s c (destinationOf s c)) ≡ false)
   pub narrow : surfaceOf s c .width ≤ 1024
   pub low : surfaceOf s c .height ≤ 1024
   pub shown : surfaceOf s c .width * B ≤ surfaceOf s c .line
@@ -58,7 +66,7 @@ blitRegistersOf s c =
       offset = surfaceOf s c .line / 2;
       width = c .width - 1;
       height = c .height - 1;
-      background = 0;
+      background = usedValue (c .operation) 0x8020 (c .key);
       foreground = usedValue (c .operation) 0x8024 (c .colour);
     }
 
@@ -161,7 +169,7 @@ module _ (m B : ℕ) (s : Screen) (c : Command) (d : Drawable m B s c) where
   corner-inside : corner s c B + last + B ≤ m
   corner-inside = last-inside (c .x) (c .y) (d .right) (d .bottom)
 
-  pub source-inside : c .operation ≡ 1 → source-corner + last + B ≤ m
+  pub source-inside : Moves c → source-corner + last + B ≤ m
   source-inside e = last-inside (c .sx) (c .sy) (d .source-right e) (d .source-bottom e)
 
   span-is : span regs ≡ last
@@ -237,18 +245,23 @@ module _ (m B : ℕ) (s : Screen) (c : Command) (d : Drawable m B s c) where
     pub destination-reaches : cond t (backward m regs (chip·destinationOf regs)) (forward m regs (chip·destinationOf regs)) ≡ true
     destination-reaches = start-reaches t (chip·destinationOf regs) (corner s c B) destination-is corner-inside
 
-    -- a move's source
-    module _ (e : c .operation ≡ 1) where
-      source-value : sourceValue s c ≡ source-corner + shift t
-      unfolding sourceValue lastColumn lastLine
-      source-value = by-move (c .operation) _ _ _ e ∙ rw way (start-at t (c .sx) (c .sy))
+    -- a move's source; a transparent move goes in positive direction
+    module _ (e : Moves c) where
+      no-shift : c .operation ≡ 5 → shift t ≡ 0
+      unfolding isNegative
+      no-shift z = ap shift (sym way ∙ by-transparent (c .operation) _ _ _ _ _ _ z)
 
-      source-used : usedValue (c .operation) 0x800C (sourceValue s c) ≡ sourceValue s c
-      source-used = rw (ne-eqb (c .operation) 0 (λ z. omega arith), eq-eqb (c .operation) 1 e) refl
+      source-value : sourceValue s c ≡ source-corner + shift t
+      unfolding sourceValue sourceOf lastColumn lastLine
+      source-value =
+          ⊎-elim
+          (λ z. by-move (c .operation) _ _ _ _ _ _ z ∙ rw way (start-at t (c .sx) (c .sy)))
+          (λ z. by-transparent (c .operation) _ _ _ _ _ _ z ∙ address-is (s .depth) B on (c .sx) (c .sy) (d .deep) ∙ omega (arith, no-shift z))
+          e
 
       pub source-is : chip·sourceOf regs ≡ source-corner + shift t
       unfolding blitRegistersOf
-      source-is = start-read t (usedValue (c .operation) 0x800C (sourceValue s c)) source-corner (source-used ∙ source-value) (source-inside e) .0
+      source-is = start-read t (usedValue (c .operation) 0x800C (sourceValue s c)) source-corner (source-used s c ∙ source-value) (source-inside e) .0
 
       pub source-whole : wholeAt regs (chip·sourceOf regs) ≡ true
       source-whole = start-whole t (chip·sourceOf regs) (c .sx) (c .sy) source-is
@@ -270,7 +283,7 @@ module _ (m B : ℕ) (s : Screen) (c : Command) (d : Drawable m B s c) where
           offset = omega (arith, d .short);
           width = omega (arith, d .right, d .narrow);
           height = omega (arith, d .bottom, d .low);
-          background = omega arith;
+          background = used-below (uses (c .operation) 0x8020) (c .key) 0xFFFF (d .key);
           foreground = used-below (uses (c .operation) 0x8024) (c .colour) 0xFFFF (d .colour);
           control = control-ok (eqb (s .depth) 16);
           starts = control-odd (eqb (s .depth) 16);

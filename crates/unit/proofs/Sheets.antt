@@ -16,8 +16,9 @@ use Rattle.screen.specs.Values.{windowX, windowY, originOf, valuesOf}
 use Rattle.screen.specs.declared.Image.{Image}
 use Rattle.view.specs.View.{pixelAt, viewPixel, inWindow, windowPixel}
 use Rattle.reader.specs.Read.{refusedPoint}
-use Rattle.command.specs.Command.{commandOf, commandBytes, surfaceOf, mustBeZero, formed, insideImage, placed, lineWords, wordsTaken, commandRows, refusal}
-use Rattle.command.specs.Values.{addressOf, destinationOf, sourceOf, isNegative, lastColumn, lastLine, commandValue, sourceValue, destinationValue, controlValue, blitValues}
+use Rattle.command.specs.Sharing.{anyOf, shareByte}
+use Rattle.command.specs.Command.{commandOf, commandBytes, surfaceOf, addressOf, destinationOf, sourceOf, mustBeZero, patternFits, formed, insideImage, placed, clashes, lineWords, wordsTaken, commandRows, refusal}
+use Rattle.command.specs.Values.{isNegative, lastColumn, lastLine, commandValue, patternValue, sourceValue, destinationValue, controlValue, blitValues}
 use Rattle.record.specs.Lists.{partsFrom, partsOf}
 use Rattle.compiler.specs.Stream.{recordsWith, screenRecords, dataRecords, commandRecords, drawRecords, recordsFor}
 use Rattle.command.specs.Task.{shortForm, task, listRows, firstRefusal, allWords, wordRows, taskRefusal}
@@ -159,7 +160,7 @@ pub drawings : draws (command 0 0 0 0 1 1 0 0 99) [] 120 old
     ∷ (13 ∷ 1 ∷ 0 ∷ 0 ∷ 0 ∷ 0 ∷ 1 ∷ 2 ∷ 7 ∷ [])
     ∷ (17 ∷ 0 ∷ 0 ∷ 0 ∷ 0 ∷ 0 ∷ 1 ∷ 2 ∷ 7 ∷ [])
     ∷ []
-unfolding allZero firstOf recordBytes streamBytes isDepth byteOf bitwise imageEnd startOf fieldsOf wellFormed panelOk viewWidth viewHeight wholeDwords mainImage windowImage lineOk imageOk windowOk windowWhole fieldRows screenRows windowX windowY originOf valuesOf commandOf commandBytes surfaceOf mustBeZero formed insideImage placed lineWords wordsTaken commandRows refusal addressOf destinationOf sourceOf isNegative lastColumn lastLine commandValue sourceValue destinationValue controlValue blitValues partsFrom partsOf recordsWith screenRecords dataRecords commandRecords drawRecords recordsFor listRows firstRefusal allWords wordRows taskRefusal roomRows refusalOf compiling streamOf bufferAfter sheetPixel hostPixel sheetSource sheetMix newPixel changes sheetByte sheetCommand sheetCommands sheetAfter drawing memoryDrawn streamDrawn
+unfolding allZero firstOf recordBytes streamBytes isDepth byteOf bitwise imageEnd startOf fieldsOf wellFormed panelOk viewWidth viewHeight wholeDwords mainImage windowImage lineOk imageOk windowOk windowWhole fieldRows screenRows windowX windowY originOf valuesOf commandOf commandBytes surfaceOf mustBeZero patternFits formed insideImage placed anyOf shareByte clashes lineWords wordsTaken commandRows refusal addressOf destinationOf sourceOf isNegative lastColumn lastLine commandValue patternValue sourceValue destinationValue controlValue blitValues partsFrom partsOf recordsWith screenRecords dataRecords commandRecords drawRecords recordsFor listRows firstRefusal allWords wordRows taskRefusal roomRows refusalOf compiling streamOf bufferAfter sheetPixel hostPixel sheetSource sheetMix newPixel changes sheetByte sheetCommand sheetCommands sheetAfter drawing memoryDrawn streamDrawn
 drawings = refl
 
 -- the numbers of an answer, and the answer with these numbers

@@ -40,11 +40,11 @@ pub list-numbered : (size : ℕ) (s : Screen) (list : List ℕ) → Numbered (li
 unfolding Numbered listRows
 list-numbered size s list = (lit< tt, (lit< tt, tt))
 
-pub listed-numbered : (s : Screen) (i left : ℕ) (bs : List (List ℕ)) → Numbered (listedRows s i left bs)
+pub listed-numbered : (m : ℕ) (s : Screen) (i left : ℕ) (bs : List (List ℕ)) → Numbered (listedRows m s i left bs)
 unfolding listedRows Numbered
-listed-numbered s i left [] = tt
-listed-numbered s i left (b ∷ bs) =
-    numbered-append (rowsAt i (commandRows s left b (commandOf b))) _ (numbered-at i (commandRows s left b (commandOf b)) (command-numbered s left b (commandOf b))) (listed-numbered s (suc i) _ bs)
+listed-numbered m s i left [] = tt
+listed-numbered m s i left (b ∷ bs) =
+    numbered-append (rowsAt i (commandRows m s left b (commandOf b))) _ (numbered-at i (commandRows m s left b (commandOf b)) (command-numbered m s left b (commandOf b))) (listed-numbered m s (suc i) _ bs)
 
 word-numbered : (t : Task) → Numbered (wordRows t)
 unfolding Numbered wordRows
@@ -104,38 +104,38 @@ turned : {A : Type 0} (t : Bool) (x y : A) → cond (not t) x y ≡ cond t y x
 turned true x y = refl
 turned false x y = refl
 
-module _ (s : Screen) where
-  pub listed-first : (i left : ℕ) (bs : List (List ℕ)) → firstRefusal s i left bs .number ≡ firstOf (listedRows s i left bs)
+module _ (m : ℕ) (s : Screen) where
+  pub listed-first : (i left : ℕ) (bs : List (List ℕ)) → firstRefusal m s i left bs .number ≡ firstOf (listedRows m s i left bs)
   unfolding firstRefusal listedRows refusal
   listed-first i left [] = rows-end
   listed-first i left (b ∷ bs) =
-      let rows = commandRows s left b (commandOf b) in
+      let rows = commandRows m s left b (commandOf b) in
       number-of (eqb (firstOf rows) 0) _ _
       ∙ ap (λ (n : ℕ). cond (eqb (firstOf rows) 0) n (firstOf rows)) (listed-first (suc i) (left - wordsTaken s (commandOf b)) bs)
-      ∙ sym (at-parts i rows (listedRows s (suc i) (left - wordsTaken s (commandOf b)) bs) (command-numbered s left b (commandOf b)))
+      ∙ sym (at-parts i rows (listedRows m s (suc i) (left - wordsTaken s (commandOf b)) bs) (command-numbered m s left b (commandOf b)))
 
-  pub listed-place : (i left : ℕ) (bs : List (List ℕ)) → firstRefusal s i left bs .place ≡ firstPlace (listedRows s i left bs)
+  pub listed-place : (i left : ℕ) (bs : List (List ℕ)) → firstRefusal m s i left bs .place ≡ firstPlace (listedRows m s i left bs)
   unfolding firstRefusal listedRows refusal firstPlace
   listed-place i left [] = refl
   listed-place i left (b ∷ bs) =
-      let rows = commandRows s left b (commandOf b) in
+      let rows = commandRows m s left b (commandOf b) in
       place-of (eqb (firstOf rows) 0) _ _
       ∙ ap (λ (n : ℕ). cond (eqb (firstOf rows) 0) n i) (listed-place (suc i) (left - wordsTaken s (commandOf b)) bs)
-      ∙ sym (at-place-parts i rows (listedRows s (suc i) (left - wordsTaken s (commandOf b)) bs) (command-numbered s left b (commandOf b)))
+      ∙ sym (at-place-parts i rows (listedRows m s (suc i) (left - wordsTaken s (commandOf b)) bs) (command-numbered m s left b (commandOf b)))
 
 module _ (m : ℕ) (t : Task) where
-  -- 1 to 11, 12 to 15, 16
+  -- 1 to 11, 12 to 15 and 29, 16
   abbrev before : List Row
   before = screenRows m (t .screen) ++ listRows (t .form) (screenIn t) (t .list)
 
   abbrev after : List Row
-  after = listedRows (screenIn t) 0 (length (t .words)) (commandsIn t)
+  after = listedRows m (screenIn t) 0 (length (t .words)) (commandsIn t)
 
   abbrev ends : List Row
   ends = wordRows t
 
   abbrev inList : Refusal
-  inList = firstRefusal (screenIn t) 0 (length (t .words)) (commandsIn t)
+  inList = firstRefusal m (screenIn t) 0 (length (t .words)) (commandsIn t)
 
   before-numbered : Numbered before
   before-numbered = numbered-append (screenRows m (t .screen)) _ (screen-numbered m (t .screen)) (list-numbered (t .form) (screenIn t) (t .list))
@@ -145,7 +145,7 @@ module _ (m : ℕ) (t : Task) where
       placeless before (placeless-append (screenRows m (t .screen)) _ (screen-placeless m (t .screen)) (list-placeless (t .form) (screenIn t) (t .list)))
 
   after-numbered : Numbered after
-  after-numbered = listed-numbered (screenIn t) 0 (length (t .words)) (commandsIn t)
+  after-numbered = listed-numbered m (screenIn t) 0 (length (t .words)) (commandsIn t)
 
   task-first : taskRefusal m t .number ≡ firstOf (taskRows m t)
   unfolding taskRefusal taskRows
@@ -155,7 +155,7 @@ module _ (m : ℕ) (t : Task) where
       ∙ ap (λ (n : ℕ). cond (eqb (firstOf before) 0) n (firstOf before))
       (number-of (not (eqb (inList .number) 0)) _ _
       ∙ turned (eqb (inList .number) 0) _ _
-      ∙ ap (λ (n : ℕ). cond (eqb n 0) (firstOf ends) n) (listed-first (screenIn t) 0 (length (t .words)) (commandsIn t))
+      ∙ ap (λ (n : ℕ). cond (eqb n 0) (firstOf ends) n) (listed-first m (screenIn t) 0 (length (t .words)) (commandsIn t))
       ∙ sym (parts after ends after-numbered))
       ∙ sym (parts before (after ++ ends) before-numbered)
       ∙ ap firstOf (append-assoc (screenRows m (t .screen)) (listRows (t .form) (screenIn t) (t .list)) (after ++ ends))
@@ -163,7 +163,7 @@ module _ (m : ℕ) (t : Task) where
   -- the place of 12 to 16
   listed-or-ended : (b : Bool) → cond (not b) inList (record { number = firstOf ends; place = 0 }) .place ≡ cond b (firstPlace ends) (firstPlace after)
   listed-or-ended true = sym (placeless ends (word-placeless t))
-  listed-or-ended false = listed-place (screenIn t) 0 (length (t .words)) (commandsIn t)
+  listed-or-ended false = listed-place m (screenIn t) 0 (length (t .words)) (commandsIn t)
 
   -- the place of 1 to 16
   any-of : (b : Bool) (r : Refusal) (i : ℕ) → r .place ≡ i → cond (not b) (record { number = firstOf before; place = 0 }) r .place ≡ cond b i (firstPlace before)
@@ -175,7 +175,7 @@ module _ (m : ℕ) (t : Task) where
   task-place =
       any-of (eqb (firstOf before) 0) _ (firstPlace (after ++ ends))
       (listed-or-ended (eqb (inList .number) 0)
-      ∙ ap (λ (n : ℕ). cond (eqb n 0) (firstPlace ends) (firstPlace after)) (listed-first (screenIn t) 0 (length (t .words)) (commandsIn t))
+      ∙ ap (λ (n : ℕ). cond (eqb n 0) (firstPlace ends) (firstPlace after)) (listed-first m (screenIn t) 0 (length (t .words)) (commandsIn t))
       ∙ sym (place-parts after ends after-numbered))
       ∙ sym (place-parts before (after ++ ends) before-numbered)
       ∙ ap firstPlace (append-assoc (screenRows m (t .screen)) (listRows (t .form) (screenIn t) (t .list)) (after ++ ends))

@@ -19,6 +19,7 @@ use Rattle.chip.specs.declared.Registers.{Registers}
 use Rattle.command.specs.Values.{isNegative, commandValue, sourceValue}
 use Rattle.command.specs.declared.Command.{Command}
 use Rattle.command.proofs.Operation.{by-write}
+use Rattle.command.proofs.Values.{source-is as source-used}
 use Rattle.unit.specs.Sheet.{sheetCommand}
 use Rattle.unit.proofs.Painted.{over, corner, written}
 use Rattle.unit.proofs.Registers.{Drawable, blitRegistersOf, Starts, bytes-is, width-is, operation-is, code-is, room, fits-over, destination-is, destination-whole, destination-reaches, fields-of, read-back}
@@ -29,22 +30,22 @@ module _ (m B : ℕ) (s : Screen) (c : Command) (d : Drawable m B s c) (e : c .o
 
   up : isNegative s c ≡ false
   unfolding isNegative
-  up = by-write (c .operation) _ _ _ e
+  up = by-write (c .operation) _ _ _ _ _ _ e
 
   value : commandValue s c ≡ 0 + 65536 * c .raster
   unfolding commandValue
-  value = ap (λ (k : ℕ). k + 65536 * c .raster) (by-write (c .operation) _ _ _ e)
+  value = ap (λ (k : ℕ). k + 65536 * c .raster) (by-write (c .operation) _ _ _ _ _ _ e)
 
   no-source : sourceValue s c ≡ 0
   unfolding sourceValue
-  no-source = by-write (c .operation) _ _ _ e
+  no-source = by-write (c .operation) _ _ _ _ _ _ e
 
   op : operation regs ≡ 0
   op = operation-is m B s c d 0 (lit< tt) value
 
   from-none : sourceOf regs ≡ 0
   unfolding blitRegistersOf
-  from-none = rw (ne-eqb (c .operation) 0 (λ z. omega arith), ne-eqb (c .operation) 1 (λ z. omega arith), no-source) refl
+  from-none = rw (source-used s c, no-source) refl
 
   can : startable regs ≡ true
   unfolding startable sourceFits
