@@ -7,6 +7,7 @@ pub mod Registers
 pub mod Fill
 pub mod Move
 pub mod Write
+pub mod Pattern
 pub mod Tables
 pub mod Drawable
 pub mod Listed
