@@ -2,8 +2,8 @@ use mathlib.Core.Path.{refl}
 use borrow.Author.Tests.{eq-eqb, ne-eqb}
 use Rattle.record.proofs.Choice.{yes, no}
 use Rattle.command.specs.Values.{controlValue}
-use Rattle.command_code.proofs.control_value.Statement.{statement}
-use Rattle.command_code.proofs.control_value.Tie as tie
+use Rattle.command_values.proofs.control_value.Statement.{statement}
+use Rattle.command_values.proofs.control_value.Tie as tie
 
 returns : tie.Need-returns
 unfolding controlValue

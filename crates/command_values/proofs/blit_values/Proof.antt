@@ -1,7 +1,7 @@
 use borrow.Author.Needs.{needs}
 use Rattle.command.proofs.Values.{values-are}
-use Rattle.command_code.proofs.blit_values.Statement.{statement}
-use Rattle.command_code.proofs.blit_values.Tie as tie
+use Rattle.command_values.proofs.blit_values.Statement.{statement}
+use Rattle.command_values.proofs.blit_values.Tie as tie
 
 surface-of-requires : tie.Need-surface-of-requires
 surface-of-requires c κs = search needs
@@ -30,6 +30,9 @@ less-one-requires-2 c κs = search needs
 cast-height : tie.Need-cast-height
 cast-height c = search needs
 
+key-value-requires : tie.Need-key-value-requires
+key-value-requires c κs = search needs
+
 colour-value-requires : tie.Need-colour-value-requires
 colour-value-requires c κs = search needs
 
@@ -52,6 +55,7 @@ blit-values-spec =
     cast-width
     less-one-requires-2
     cast-height
+    key-value-requires
     colour-value-requires
     control-value-requires
     returns)

@@ -1,7 +1,6 @@
 use borrow.Author.Needs.{needs}
-use Rattle.command.specs.Values.{destinationValue}
-use Rattle.command_code.proofs.destination_value.Statement.{statement}
-use Rattle.command_code.proofs.destination_value.Tie as tie
+use Rattle.command_values.proofs.move_value.Statement.{statement}
+use Rattle.command_values.proofs.move_value.Tie as tie
 
 surface-of-requires : tie.Need-surface-of-requires
 surface-of-requires c κs = search needs
@@ -28,11 +27,10 @@ address-of-requires : tie.Need-address-of-requires
 address-of-requires c κs = search needs
 
 returns : tie.Need-returns
-unfolding destinationValue
-returns c = simp (c .address-of .ensures, c .before .before .before .before .before .surface-of .ensures, c .before .before .before .last-column .ensures .0, c .before .last-line .ensures .0)
+returns c = simp (c .address-of .ensures .0, c .before .last-line .ensures .0, c .before .before .before .last-column .ensures .0, c .before .before .before .before .before .surface-of .ensures)
 
-pub destination-value-spec : {M : Type 1} → statement M
-destination-value-spec =
+pub move-value-spec : {M : Type 1} → statement M
+move-value-spec =
     tie.close
     (tie.spec
     surface-of-requires

@@ -3,9 +3,9 @@ use mathlib.Core.Path.{refl}
 use native.Mathlib.Omega.{arith}
 use native.Mathlib.Nat.{mul-le-mul}
 use borrow.Author.Needs.{needs}
-use Rattle.command.specs.Values.{addressOf}
-use Rattle.command_code.proofs.address_of.Statement.{statement}
-use Rattle.command_code.proofs.address_of.Tie as tie
+use Rattle.command.specs.Command.{addressOf}
+use Rattle.command_values.proofs.address_of.Statement.{statement}
+use Rattle.command_values.proofs.address_of.Tie as tie
 
 -- the bytes of the lines above, and the bits of the pixels to the left
 lines : (c : tie.After-struct-known2) → c .before .before .args .y * c .before .before .args .i .line ≤ 131070 * 4294967295
@@ -34,7 +34,7 @@ add-result-2 c = omega (arith, lines c, bits c)
 
 returns : tie.Need-returns
 unfolding addressOf
-returns c = refl
+returns c = (refl, omega (arith, lines c, bits c))
 
 pub address-of-spec : {M : Type 1} → statement M
 address-of-spec =

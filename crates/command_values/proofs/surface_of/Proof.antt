@@ -2,8 +2,8 @@ use borrow.Author.Tests.{eq-eqb, ne-eqb}
 use borrow.Author.Needs.{needs}
 use Rattle.record.proofs.Choice.{yes, no}
 use Rattle.command.specs.Command.{surfaceOf}
-use Rattle.command_code.proofs.surface_of.Statement.{statement}
-use Rattle.command_code.proofs.surface_of.Tie as tie
+use Rattle.command_values.proofs.surface_of.Statement.{statement}
+use Rattle.command_values.proofs.surface_of.Tie as tie
 
 main-image-requires : tie.Need-main-image-requires
 main-image-requires c κs = search needs
