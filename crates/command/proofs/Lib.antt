@@ -3,6 +3,7 @@ pub mod Operation
 pub mod Bytes
 pub mod Fine
 pub mod Forms
+pub mod Sharing
 pub mod Numbers
 pub mod Commands
 pub mod Task
