@@ -1,12 +1,12 @@
 -- Lines share a byte exactly when an address is a byte of both.
-use Prim.Native.Nat.{ℕ, zero, suc, _+_, _*_, _<_, _≤_, min, max}
+use Prim.Native.Nat.{ℕ, zero, suc, _+_, _*_, _<_, min, max}
 use mathlib.Core.Path.{_≡_, refl, sym}
 use mathlib.Core.Bool.{Bool, true, false, _||_}
 use mathlib.Core.Logic.{⊎-elim}
 use native.Mathlib.Omega.{arith}
 use borrow.Author.Tests.{ltb-true, lt-ltb}
 use Rattle.record.proofs.Choice.{or-elim, below-or-not}
-use Rattle.command.specs.Sharing.{Lines, meet, anyOf, shareByte, Holds, InBoth, SharesExactly}
+use Rattle.command.specs.Sharing.{Lines, meet, anyOf, shareByte, InBoth, SharesExactly}
 
 -- tests that hold together are one
 pub same-truth : (a b : Bool) → (a ≡ true → b ≡ true) → (b ≡ true → a ≡ true) → a ≡ b

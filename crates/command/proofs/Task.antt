@@ -2,12 +2,12 @@
 use Prim.Native.Nat.{ℕ, _*_, _/_, _%_, _<_, _≤_}
 use mathlib.Core.Path.{_≡_, refl, sym, _∙_}
 use mathlib.Core.List.{List, _++_}
-use mathlib.Core.Bool.{Bool, true, false, not, _&&_, cond, and-eq-true-iff}
+use mathlib.Core.Bool.{Bool, true, false, not, _&&_, cond}
 use mathlib.Core.Logic.{_⊎_, inl, inr}
 use native.Mathlib.Omega.{arith}
 use lib.ListN.{length}
-use lib.Dec.{eqb, ltb, leb, lit<}
-use borrow.Author.Tests.{eqb-true, eqb-false, ne-eqb, leb-true, ltb-false, lt-ltb, le-ltb, not-false}
+use lib.Dec.{eqb, ltb, lit<}
+use borrow.Author.Tests.{eqb-true, eqb-false, ne-eqb, ltb-false, lt-ltb, le-ltb, not-false}
 use Rattle.record.specs.Checks.{Row, row, firstOf, Refusal}
 use Rattle.record.proofs.Checks.{none, passed, first-part, second-part, row-fails, row-passes, rows-end}
 use Rattle.record.proofs.Lists.{length-parts}

@@ -1,5 +1,5 @@
 -- "unused values 0": the value of a register that the operation does not use is 0.
-use Prim.Native.Nat.{ℕ, zero, suc, _+_, _-_, _/_}
+use Prim.Native.Nat.{ℕ, zero, suc, _-_, _/_}
 use mathlib.Core.Path.{_≡_, refl}
 use mathlib.Core.List.{List, [], _∷_}
 use mathlib.Core.Bool.{false, _&&_}
@@ -7,8 +7,8 @@ use lib.ListN.{getD}
 use lib.Dec.{eqb, ltb}
 use borrow.Author.Tests.{ne-eqb}
 use Rattle.screen.specs.declared.Screen.{Screen}
-use Rattle.command.specs.Command.{byOperation, surfaceOf, addressOf, sourceOf, destinationOf}
-use Rattle.command.specs.Values.{isNegative, lastColumn, lastLine, commandValue, patternValue, sourceValue, destinationValue, controlValue, blitRegisters, uses, usedValue, blitValues}
+use Rattle.command.specs.Command.{byOperation, surfaceOf, sourceOf, destinationOf}
+use Rattle.command.specs.Values.{isNegative, commandValue, sourceValue, destinationValue, controlValue, blitRegisters, uses, usedValue, blitValues}
 use Rattle.command.specs.declared.Command.{Command}
 use Rattle.command.proofs.Operation.{each}
 

@@ -3,7 +3,6 @@ use Prim.Native.Nat.{ℕ, _+_, _-_, _*_, _/_}
 use mathlib.Core.List.{List, [], _∷_, _++_}
 use mathlib.Core.Bool.{Bool, false, _||_, cond}
 use lib.Dec.{ltb, eqb}
-use Rattle.screen.specs.declared.Image.{Image}
 use Rattle.screen.specs.declared.Screen.{Screen}
 use Rattle.command.specs.Command.{byOperation, surfaceOf, addressOf, destinationOf, sourceOf}
 use Rattle.command.specs.declared.Command.{Command}

@@ -60,7 +60,14 @@ fn is_pattern_shared(s: Screen, c: Command) -> bool
     let destination = command_values::destination_of(s, c);
     let size = line_bytes(s.depth, c.width);
     let pattern = 8 * s.depth as u32;
-    lines_meet(destination, on.line, size, c.height, c.pattern as u64, pattern)
+    lines_meet(
+        destination,
+        on.line,
+        size,
+        c.height,
+        c.pattern as u64,
+        pattern,
+    )
 }
 
 // Whether a transparent move's source shares a byte with a destination of a greater address.

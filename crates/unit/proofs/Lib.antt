@@ -8,6 +8,7 @@ pub mod Fill
 pub mod Move
 pub mod Write
 pub mod Pattern
+pub mod Transparent
 pub mod Tables
 pub mod Drawable
 pub mod Listed

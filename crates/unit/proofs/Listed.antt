@@ -3,7 +3,7 @@
 use mathlib.Core.Path.{_≡_, refl, sym, ap, ap₂, subst, _∙_}
 use mathlib.Core.Bool.{Bool, true, false}
 use mathlib.Core.List.{List, [], _∷_, _++_, append-nil}
-use mathlib.Core.Logic.{_⊎_, inl, inr, ⊎-elim}
+use mathlib.Core.Logic.{_⊎_, ⊎-elim}
 use Prim.Native.Nat.{ℕ, suc, _+_, _-_, _*_, _/_, _≤_, _<_}
 use native.Mathlib.Omega.{arith}
 use native.Mathlib.Nat.{mul-comm}
@@ -13,7 +13,7 @@ use borrow.Author.Tests.{eq-eqb, ne-eqb}
 use Rattle.record.specs.Lists.{AllBelow}
 use Rattle.record.specs.Checks.{firstOf}
 use Rattle.record.specs.declared.Record.{Record}
-use Rattle.record.proofs.Choice.{below-or-not, yes, no}
+use Rattle.record.proofs.Choice.{yes, no}
 use Rattle.record.proofs.Lists.{length-tabulate, EachBelow, below-take, below-drop}
 use Rattle.screen.specs.Screen.{fieldRows}
 use Rattle.screen.specs.declared.Screen.{Screen}
@@ -27,7 +27,7 @@ use Rattle.chip.proofs.Commands.{blitWrites, wordWrites, AllWords, startedChip,
 use Rattle.command.specs.Command.{commandOf, lineWords, wordsTaken}
 use Rattle.command.specs.Values.{isNegative, blitRegisters, blitValues}
 use Rattle.command.specs.declared.Command.{Command}
-use Rattle.command.proofs.Operation.{by-fill, by-move, by-write}
+use Rattle.command.proofs.Operation.{by-write, each, not-write}
 use Rattle.compiler.specs.Stream.{recordsWith, dataRecords, commandRecords, drawRecords}
 use Rattle.command.specs.Task.{allWords}
 use Rattle.command.proofs.Commands.{AllFine}
@@ -38,6 +38,8 @@ use Rattle.unit.proofs.Registers.{Drawable, blitRegistersOf, Starts, At
 use Rattle.unit.proofs.Fill.{fill-starts}
 use Rattle.unit.proofs.Move.{moveNumber, move-starts}
 use Rattle.unit.proofs.Write.{ByWords, write-starts}
+use Rattle.unit.proofs.Pattern.{pattern-starts}
+use Rattle.unit.proofs.Transparent.{transparent-starts}
 
 -- the records end at a chip that waits for no data and has the same screen registers
 pub record Ends (m : ℕ) (c : Chip) (rs : List Record) (old new : List ℕ) : Type 0 where
@@ -82,14 +84,10 @@ line-words d B width h t =
     (λ e. no _ (ne-eqb d 8 (λ q. omega arith)) (rw e (omega arith)))
     t
 
--- the words that each operation takes
-fill-words : (s : Screen) (c : Command) → c .operation ≡ 0 → wordsTaken s c ≡ 0
+-- the words that a write takes; any other operation takes none
+no-words : (s : Screen) (c : Command) → (c .operation ≡ 2 → ⊥) → wordsTaken s c ≡ 0
 unfolding wordsTaken
-fill-words s c e = by-fill (c .operation) _ _ _ _ _ _ e
-
-move-words : (s : Screen) (c : Command) → c .operation ≡ 1 → wordsTaken s c ≡ 0
-unfolding wordsTaken
-move-words s c e = by-move (c .operation) _ _ _ _ _ _ e
+no-words s c h = not-write (c .operation) 0 _ h
 
 write-words : (s : Screen) (c : Command) → c .operation ≡ 2 → wordsTaken s c ≡ lineWords (s .depth) (c .width) * c .height
 unfolding wordsTaken
@@ -151,19 +149,24 @@ module _ (m B : ℕ) (s : Screen) (c : Command) (d : Drawable m B s c) (chip : C
   pub command-ends : (words old : List ℕ) → AllBelow 65536 words → length words ≡ wordsTaken s c → length old ≡ m
       → Ends m chip (commandRecords s c words) old (sheetCommand s c words old)
   command-ends words old few count len =
-      ⊎-elim
-      (λ e. drawn-alone words old (count ∙ fill-words s c e) 12 (λ z. omega arith) (fill-starts m B s c d e) len)
-      (λ p. ⊎-elim
-      (λ e. drawn-alone words old (count ∙ move-words s c e) (moveNumber (isNegative s c)) (some-number (isNegative s c)) (move-starts m B s c d e (isNegative s c) refl) len)
-      (λ e. written-all words old e few count len) p)
-      (three (c .operation) (d .operation))
+      each (c .operation)
+      (λ e. alone e (omega arith) 12 (omega arith) (fill-starts m B s c d e))
+      (λ e. alone e (omega arith) (moveNumber (isNegative s c)) (move-above (isNegative s c)) (move-starts m B s c d e (isNegative s c) refl))
+      (λ e. written-all words old e few count len)
+      (λ e. alone e (omega arith) 6 (omega arith) (pattern-starts m B s c d false e))
+      (λ e. alone e (omega arith) 7 (omega arith) (pattern-starts m B s c d true e))
+      (λ p0 p1 p2 p3 p4. alone (last p0 p1 p2 p3 p4) (omega arith) 5 (omega arith) (transparent-starts m B s c d (last p0 p1 p2 p3 p4)))
     where
-      three : (n : ℕ) → n ≤ 2 → (n ≡ 0) ⊎ ((n ≡ 1) ⊎ (n ≡ 2))
-      three n h = ⊎-elim (λ p. inl (omega arith)) (λ p. inr (⊎-elim (λ q. inl (omega arith)) (λ q. inr (omega arith)) (below-or-not n 2))) (below-or-not n 1)
+      -- operation k, which is no write, started as operation n of the chip, which is no write either
+      alone : {k : ℕ} → c .operation ≡ k → (k ≡ 2 → ⊥) → (n : ℕ) → 0 < n → Starts m s c n (AtOnce m B s c d) → Ends m chip (commandRecords s c words) old (sheetCommand s c words old)
+      alone e other n some l = drawn-alone words old (count ∙ no-words s c (λ z. other (sym e ∙ z))) n (λ z. omega (arith, some)) l len
 
-      some-number : (t : Bool) → moveNumber t ≡ 0 → ⊥
-      some-number true z = omega arith
-      some-number false z = omega arith
+      last : (c .operation ≡ 0 → ⊥) → (c .operation ≡ 1 → ⊥) → (c .operation ≡ 2 → ⊥) → (c .operation ≡ 3 → ⊥) → (c .operation ≡ 4 → ⊥) → c .operation ≡ 5
+      last p0 p1 p2 p3 p4 = omega (arith, d .operation)
+
+      move-above : (t : Bool) → 0 < moveNumber t
+      move-above true = omega arith
+      move-above false = omega arith
 
 -- ---- a whole list
 pub ends-none : (m : ℕ) (c : Chip) (old : List ℕ) → c .due .any ≡ false → Ends m c [] old old

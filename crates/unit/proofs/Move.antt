@@ -39,7 +39,7 @@ is-down : (t : Bool) → eqb (moveNumber t) 3 ≡ t
 is-down true = refl
 is-down false = refl
 
-same : {A : Type 0} (t : Bool) (x : A) → cond t x x ≡ x
+pub same : {A : Type 0} (t : Bool) (x : A) → cond t x x ≡ x
 same true x = refl
 same false x = refl
 

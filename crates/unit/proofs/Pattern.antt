@@ -1,24 +1,22 @@
 -- A pattern fill that is not refused, with raster code or with key colour: the chip starts it, and does to the memory what the sheet says.
 use mathlib.Core.Path.{_≡_, refl, sym, ap, ap₂, _∙_}
-use mathlib.Core.Bool.{Bool, true, false, _&&_, cond}
+use mathlib.Core.Bool.{Bool, true, false, cond}
 use mathlib.Core.List.{List}
-use mathlib.Core.Logic.{inl, inr, ⊎-elim}
-use Prim.Native.Nat.{ℕ, zero, suc, _+_, _*_, _/_, _%_, _^_, _≤_, _<_}
+use mathlib.Core.Logic.{inl, inr}
+use Prim.Native.Nat.{ℕ, zero, suc, _+_, _*_, _/_, _%_, _≤_, _<_}
 use native.Mathlib.Omega.{arith}
 use native.Mathlib.Nat.{mod-eq-of-lt}
 use lib.Dec.{eqb, lit<}
-use lib.ListN.{length}
 use borrow.Author.Tests.{eq-eqb, le-leb}
 use Rattle.screen.specs.declared.Screen.{Screen}
-use Rattle.blit.specs.Blit.{Blit, Source, given, positive, chipBlit, towards}
+use Rattle.blit.specs.Blit.{Blit, given, chipBlit, towards}
 use Rattle.blit.specs.Job.{mixOf, patternPixel, sourceOf as blit·sourceOf, blitOf, performed}
 use Rattle.blit.specs.Rectangle.{painted}
-use Rattle.blit.specs.declared.From.{From}
 use Rattle.blit.specs.declared.From.the-variants.{Pattern}
 use Rattle.blit.specs.declared.Mix.{Mix}
 use Rattle.blit.specs.declared.Mix.the-variants.{Raster, Key}
 use Rattle.blit.proofs.Direction.{given-is-painted}
-use Rattle.chip.specs.Start.{byBlit, operation, bytesOf, sourceOf, destinationOf, keyOf, patternBase, patternLine, patternColumn, patternWithin, wholeAt, sourceFits, startable, forward, within, rasterCode, mixBy, fromBy, jobOf, started}
+use Rattle.chip.specs.Start.{byBlit, operation, bytesOf, sourceOf, keyOf, patternBase, patternLine, patternColumn, patternWithin, wholeAt, sourceFits, startable, within, rasterCode, mixBy, fromBy, jobOf, started}
 use Rattle.chip.specs.declared.Registers.{Registers}
 use Rattle.command.specs.Command.{byOperation, patternSize}
 use Rattle.command.specs.Values.{isNegative, commandValue, patternValue, sourceValue}
@@ -28,7 +26,8 @@ use Rattle.command.proofs.Values.{source-is as source-used}
 use Rattle.command.proofs.Fine.{Patterned, PatternIn}
 use Rattle.unit.specs.Sheet.{sheetCommand}
 use Rattle.unit.proofs.Painted.{over, corner, pattern, hatched, keyed}
-use Rattle.unit.proofs.Registers.{Drawable, blitRegistersOf, Starts, AtOnce, bytes-bound, bytes-is, operation-is, code-is, room, fits-over, destination-is, destination-whole, destination-reaches, fields-of, read-back}
+use Rattle.unit.proofs.Move.{same}
+use Rattle.unit.proofs.Registers.{Drawable, blitRegistersOf, Starts, AtOnce, bytes-bound, bytes-is, operation-is, key-is, code-is, room, fits-over, destination-is, destination-whole, destination-reaches, fields-of, read-back}
 
 -- without a key colour, or with one: the command's operation, and the chip's
 abbrev pub patternOperation : Bool → ℕ
@@ -51,10 +50,6 @@ at-chip : {A : Type 0} (k : Bool) (write up down transparent pattern keyed fill 
     → byBlit (patternNumber k) write up down transparent pattern keyed fill other ≡ cond k keyed pattern
 at-chip true write up down transparent pattern keyed fill other = refl
 at-chip false write up down transparent pattern keyed fill other = refl
-
-same : {A : Type 0} (k : Bool) (x : A) → cond k x x ≡ x
-same true x = refl
-same false x = refl
 
 not-down : (k : Bool) → eqb (patternNumber k) 3 ≡ false
 not-down true = refl
@@ -157,18 +152,7 @@ module _ (m B : ℕ) (s : Screen) (c : Command) (d : Drawable m B s c) (k : Bool
   unfolding within
   inside = either-way _ _ _ _ _ _ _ ∙ rw (destination-reaches m B s c d false up, pattern-reaches) refl
 
-  -- ---- 8020h
-  key-is : k ≡ true → keyOf regs ≡ c .key
-  unfolding blitRegistersOf
-  key-is t =
-      let four : c .operation ≡ 4 = e ∙ ap patternOperation t in
-      rw four
-      (ap (λ (n : ℕ). c .key % 256 ^ n) (bytes-is m B s c d)
-      ∙ ⊎-elim
-      (λ z. rw z (mod-eq-of-lt (omega (arith, d .low-key (omega (arith, d .deep))))))
-      (λ z. rw z (mod-eq-of-lt (omega (arith, d .key))))
-      (d .size))
-
+  -- ---- the blit
   abbrev pub mixed : Bool → Mix
   mixed t = cond t (Key (c .key)) (Raster (c .raster))
 
@@ -177,7 +161,7 @@ module _ (m B : ℕ) (s : Screen) (c : Command) (d : Drawable m B s c) (k : Bool
   mix-is = cell _ _ _ _ _ _ _ _ ∙ either k refl
     where
       either : (t : Bool) → k ≡ t → cond t (Key (keyOf regs)) (Raster (rasterCode regs)) ≡ mixed t
-      either true h = ap (λ (n : ℕ). Key n) (key-is h)
+      either true h = ap (λ (n : ℕ). Key n) (key-is m B s c d (inl (e ∙ ap patternOperation h)))
       either false h = ap (λ (n : ℕ). Raster n) (code-is m B s c d (patternNumber k) (pattern-number k) value)
 
   from-is : fromBy regs ≡ Pattern (c .pattern) (c .px) (c .py)

@@ -4,7 +4,7 @@ use mathlib.Core.Path.{_≡_, refl, sym, ap, ap₂, _∙_}
 use mathlib.Core.Bool.{Bool, true, false, cond}
 use mathlib.Core.List.{List}
 use mathlib.Core.Logic.{_⊎_, ⊎-elim}
-use Prim.Native.Nat.{ℕ, _+_, _-_, _*_, _/_, _%_, _≤_, _<_}
+use Prim.Native.Nat.{ℕ, _+_, _-_, _*_, _/_, _%_, _^_, _≤_, _<_}
 use native.Mathlib.Omega.{arith}
 use native.Mathlib.Nat.{mul-le-mul-right, mod-eq-of-lt}
 use lib.Dec.{eqb}
@@ -16,9 +16,9 @@ use Rattle.blit.specs.Blit.{Blit, Source}
 use Rattle.blit.proofs.Painted.{Fits}
 use Rattle.chip.specs.Register.{controlFits, commandFits}
 use Rattle.chip.proofs.Commands.{InFields}
-use Rattle.chip.specs.Start.{operation, rasterCode, bytesOf, sourceOf as chip·sourceOf, destinationOf as chip·destinationOf, lineOf, widthOf, heightOf, wholeAt, startable, span, forward, backward, within, started}
+use Rattle.chip.specs.Start.{operation, rasterCode, bytesOf, sourceOf as chip·sourceOf, destinationOf as chip·destinationOf, keyOf, lineOf, widthOf, heightOf, wholeAt, startable, span, forward, backward, within, started}
 use Rattle.chip.specs.declared.Registers.{Registers}
-use Rattle.command.specs.Command.{surfaceOf, addressOf, destinationOf, sourceOf, rectangleAt, patternAt}
+use Rattle.command.specs.Command.{surfaceOf, addressOf, destinationOf, sourceOf, rectangleAt}
 use Rattle.command.specs.Sharing.{shareByte}
 use Rattle.command.specs.Values.{isNegative, lastColumn, lastLine, commandValue, sourceValue, destinationValue, controlValue, usedValue, uses}
 use Rattle.command.specs.declared.Command.{Command}
@@ -136,6 +136,19 @@ module _ (m B : ℕ) (s : Screen) (c : Command) (d : Drawable m B s c) where
   pub height-is : heightOf regs ≡ c .height
   unfolding blitRegistersOf
   height-is = omega (arith, d .height, d .bottom, d .low)
+
+  -- 8020h is the key colour of an operation that uses it
+  pub key-is : (c .operation ≡ 4) ⊎ (c .operation ≡ 5) → keyOf regs ≡ c .key
+  unfolding blitRegistersOf
+  key-is e =
+      (λ t. used t % 256 ^ bytes-is t)
+      ∙ ⊎-elim
+      (λ z. rw z (mod-eq-of-lt (omega (arith, d .low-key (omega (arith, d .deep))))))
+      (λ z. rw z (mod-eq-of-lt (omega (arith, d .key))))
+      (d .size)
+    where
+      used : usedValue (c .operation) 0x8020 (c .key) ≡ c .key
+      used = ⊎-elim (λ z. rw z refl) (λ z. rw z refl) e
 
   -- 8008h is an operation and the raster code
   module _ (n : ℕ) (few : n < 16) (value : commandValue s c ≡ n + 65536 * c .raster) where

@@ -6,7 +6,7 @@ use Prim.Native.Nat.{ℕ, _+_, _*_}
 use native.Mathlib.Omega.{arith}
 use lib.Dec.{lit<}
 use lib.ListN.{length}
-use borrow.Author.Tests.{eq-eqb, ne-eqb}
+use borrow.Author.Tests.{eq-eqb}
 use Rattle.record.specs.Lists.{AllBelow}
 use Rattle.screen.specs.declared.Screen.{Screen}
 use Rattle.blit.specs.Blit.{Blit, given, positive, chipBlit}
