@@ -10,11 +10,13 @@ use Rattle.record.specs.Checks.{firstOf}
 use Rattle.pixel.specs.Depth.{isDepth}
 use Rattle.screen.specs.Image.{imageEnd, startOf}
 use Rattle.screen.specs.Screen.{memorySize, fieldsOf, wellFormed, panelOk, viewWidth, viewHeight, wholeDwords, mainImage, windowImage, lineOk, imageOk, windowOk, windowWhole, fieldRows, screenRows}
+use Rattle.screen.specs.Cases.{plain}
 use Rattle.screen.specs.Values.{windowX, windowY, originOf, valuesOf}
-use Rattle.command.specs.Command.{commandOf, surfaceOf, mustBeZero, formed, insideImage, placed, lineWords, wordsTaken, commandRows, refusal}
-use Rattle.command.specs.Values.{addressOf, destinationOf, sourceOf, isNegative, lastColumn, lastLine, commandValue, sourceValue, destinationValue, controlValue, blitValues}
+use Rattle.command.specs.Sharing.{anyOf, shareByte}
+use Rattle.command.specs.Command.{commandOf, surfaceOf, addressOf, destinationOf, sourceOf, mustBeZero, patternFits, formed, insideImage, placed, clashes, lineWords, wordsTaken, commandRows, refusal}
+use Rattle.command.specs.Values.{isNegative, lastColumn, lastLine, commandValue, patternValue, sourceValue, destinationValue, controlValue, blitValues}
 use Rattle.command.specs.Task.{shortForm, longForm, task, listRows, firstRefusal, allWords, wordRows, taskRefusal}
-use Rattle.command.proofs.Tasks.{panel, fill, move, write, strange, times, fourWords}
+use Rattle.command.proofs.Tasks.{panel, fill, move, write, times, fourWords}
 use Rattle.compiler.specs.Stream.{recordsWith, screenRecords, dataRecords, commandRecords, drawRecords, recordsFor}
 use Rattle.compiler.specs.Compile.{roomRows, refusalOf, compiling, numbersOf}
 use Rattle.compiler.specs.Part.{partFrom, partSize}
@@ -34,6 +36,10 @@ abbrev two : List ℕ
 two =
     1 ∷ 101 ∷ 102 ∷ 103 ∷ 104 ∷ 105 ∷ 106 ∷ 107 ∷ 108 ∷ 109 ∷ 110 ∷ 111 ∷ 112 ∷ 113 ∷ 114 ∷ 115
     ∷ 116 ∷ 117 ∷ 118 ∷ 119 ∷ 120 ∷ 121 ∷ 122 ∷ 123 ∷ 124 ∷ 125 ∷ 126 ∷ 127 ∷ 128 ∷ 129 ∷ 130 ∷ 131 ∷ []
+
+-- a pattern fill of 8 by 1 pixels
+abbrev strange : List ℕ
+strange = 3 ∷ 0 ∷ 0xC ∷ 0 ∷ 0 ∷ 0 ∷ 0 ∷ 0 ∷ 8 ∷ 0 ∷ 1 ∷ replicate 21 0
 
 abbrev sixteen : List ℕ
 sixteen = 0 ∷ 0 ∷ 0 ∷ 0 ∷ 0 ∷ 0 ∷ 0 ∷ 0 ∷ 0 ∷ 0 ∷ 0 ∷ 0 ∷ 0 ∷ 0 ∷ 0 ∷ 0 ∷ []
@@ -89,7 +95,7 @@ acceptedAs =
     accepted 96 (one ++ sixteen ++ two ++ sixteen ++ (7 ∷ 7 ∷ 7 ∷ 7 ∷ []))
     ∷ accepted 96 (one ++ sixteen ++ two ++ sixteen)
     ∷ accepted 0 (7 ∷ 7 ∷ 7 ∷ [])
-    ∷ accepted 96 (one ++ sixteen ++ (3 ∷ replicate 47 0))
+    ∷ accepted 96 (one ++ sixteen ++ strange ++ sixteen)
     ∷ accepted 64 (one ++ two ++ (7 ∷ 7 ∷ []))
     ∷ accepted 64 (one ++ two)
     ∷ accepted 0 (7 ∷ 7 ∷ 7 ∷ [])
@@ -188,10 +194,16 @@ short = fill ++ write ++ move
 -- six screen records, nine for each command and four words: 6 + 27 + 4 records of 8 bytes
 pub compiles-hold : map numbersOf (compiling memorySize (task longForm (panel 8) (turnedList shortForm longForm short) fourWords) 296 ∷ compiling memorySize (task shortForm (panel 8) short fourWords) 296 ∷ [])
     ≡ (0 ∷ 0 ∷ 296 ∷ 8 ∷ 0 ∷ 0 ∷ []) ∷ (0 ∷ 0 ∷ 296 ∷ 8 ∷ 0 ∷ 0 ∷ []) ∷ []
-unfolding allZero firstOf partsFrom partsOf isDepth imageEnd startOf fieldsOf wellFormed panelOk viewWidth viewHeight wholeDwords mainImage windowImage lineOk imageOk windowOk windowWhole fieldRows screenRows windowX windowY originOf valuesOf commandOf surfaceOf mustBeZero formed insideImage placed lineWords wordsTaken commandRows refusal addressOf destinationOf sourceOf isNegative lastColumn lastLine commandValue sourceValue destinationValue controlValue blitValues recordsWith screenRecords dataRecords commandRecords drawRecords recordsFor listRows firstRefusal allWords wordRows taskRefusal roomRows refusalOf compiling numbersOf listOf turnedList
+unfolding allZero firstOf partsFrom partsOf isDepth imageEnd startOf fieldsOf wellFormed panelOk viewWidth viewHeight wholeDwords mainImage windowImage lineOk imageOk windowOk windowWhole fieldRows screenRows windowX windowY originOf valuesOf commandOf surfaceOf addressOf destinationOf sourceOf mustBeZero patternFits formed insideImage placed anyOf shareByte clashes lineWords wordsTaken commandRows refusal isNegative lastColumn lastLine commandValue patternValue sourceValue destinationValue controlValue blitValues recordsWith screenRecords dataRecords commandRecords drawRecords recordsFor listRows firstRefusal allWords wordRows taskRefusal roomRows refusalOf compiling numbersOf listOf turnedList
 compiles-hold = refl
 
--- the part of a refused command: 12 by operation 3 and by byte 47, each in the second command; accepted, none
+-- operation 3 is 12 in the short form, and accepted in the long one where its pattern, at 0, lies before the image: so the premise of turned lists
+pub above-compiles : compiling memorySize (task shortForm (plain 8 0 320 240 64) strange []) 296 .number ∷ compiling memorySize (task longForm (plain 8 0 320 240 64) (turnedList shortForm longForm strange) []) 296 .number ∷ []
+    ≡ 12 ∷ 0 ∷ []
+unfolding allZero firstOf partsFrom partsOf isDepth imageEnd startOf fieldsOf wellFormed panelOk viewWidth viewHeight wholeDwords mainImage windowImage lineOk imageOk windowOk windowWhole fieldRows screenRows windowX windowY originOf valuesOf commandOf surfaceOf addressOf destinationOf sourceOf mustBeZero patternFits formed insideImage placed anyOf shareByte clashes lineWords wordsTaken commandRows refusal isNegative lastColumn lastLine commandValue patternValue sourceValue destinationValue controlValue blitValues recordsWith screenRecords dataRecords commandRecords drawRecords recordsFor listRows firstRefusal allWords wordRows taskRefusal roomRows refusalOf compiling numbersOf listOf turnedList
+above-compiles = refl
+
+-- the part of a refused command: 29 by its pattern and 12 by byte 47, each in the second command; accepted, none; 12 by operation 3
 abbrev part : ℕ → List ℕ → List ℕ
 part form list = partBytes form list (compiling memorySize (task form (panel 8) list []) 1000)
 
@@ -199,7 +211,7 @@ pub parts-hold : (part longForm (fill ++ sixteen ++ strange ++ sixteen) ≡ stra
     × (part longForm (fill ++ sixteen ++ set (fill ++ sixteen) 47 1) ≡ set (fill ++ sixteen) 47 1)
     × (part longForm (fill ++ sixteen) ≡ [])
     × (part shortForm (fill ++ strange) ≡ strange)
-unfolding allZero firstOf partsFrom partsOf isDepth imageEnd startOf fieldsOf wellFormed panelOk viewWidth viewHeight wholeDwords mainImage windowImage lineOk imageOk windowOk windowWhole fieldRows screenRows windowX windowY originOf valuesOf commandOf surfaceOf mustBeZero formed insideImage placed lineWords wordsTaken commandRows refusal addressOf destinationOf sourceOf isNegative lastColumn lastLine commandValue sourceValue destinationValue controlValue blitValues recordsWith screenRecords dataRecords commandRecords drawRecords recordsFor listRows firstRefusal allWords wordRows taskRefusal roomRows refusalOf compiling partFrom partSize
+unfolding allZero firstOf partsFrom partsOf isDepth imageEnd startOf fieldsOf wellFormed panelOk viewWidth viewHeight wholeDwords mainImage windowImage lineOk imageOk windowOk windowWhole fieldRows screenRows windowX windowY originOf valuesOf commandOf surfaceOf addressOf destinationOf sourceOf mustBeZero patternFits formed insideImage placed anyOf shareByte clashes lineWords wordsTaken commandRows refusal isNegative lastColumn lastLine commandValue patternValue sourceValue destinationValue controlValue blitValues recordsWith screenRecords dataRecords commandRecords drawRecords recordsFor listRows firstRefusal allWords wordRows taskRefusal roomRows refusalOf compiling partFrom partSize
 parts-hold = (refl, refl, refl, refl)
 
 -- the S1D13706 takes an empty list alone: 11, and 144 bytes for its 18 registers

@@ -27,13 +27,14 @@ use Rattle.older.specs.Compile.{olderRecords, lentRows, olderRows, olderCompili
 use Rattle.unit.specs.Sheet.{sheetCommands, sheetAfter}
 use Rattle.unit.specs.Draw.{refusedBy, drawing, streamDrawn, memoryDrawn}
 use Rattle.form.specs.Turn.{recordIn, turning}
-use Rattle.form.specs.Claims.{turnedGiven, partBytes, SameTask, TurnedSame}
+use Rattle.form.specs.Claims.{turnedGiven, noneAbove, partBytes, SameTask, TurnedSame}
 use Rattle.form.proofs.Lists.{Each, each-part, part-at, parts-turned, list-turned}
 use Rattle.form.proofs.Commands.{first-same, words-same, draw-same, sheet-same}
 use Rattle.form.proofs.Accepted.{accepted-says, given-is}
 
--- a short list and its long form
+-- a short list, no operation of which is above 2, and its long form
 pub record Forms (list long : List ℕ) : Type 0 where
+  pub low : noneAbove (partsOf shortForm list) ≡ true
   pub listed : isList shortForm list ≡ true
   pub listed-long : isList longForm long ≡ true
   pub parts : partsOf longForm long ≡ map (recordIn longForm) (partsOf shortForm list)
@@ -99,8 +100,8 @@ module _ (list long : List ℕ) (f : Forms list long) where
     abbrev s : Screen
     s = fieldsOf screen
 
-    first : firstRefusal s 0 (length words) (commandsIn u) ≡ firstRefusal s 0 (length words) (commandsIn t)
-    first = ap (firstRefusal s 0 (length words)) (f .parts) ∙ first-same longForm s 0 (length words) commands each
+    first : (m : ℕ) → firstRefusal m s 0 (length words) (commandsIn u) ≡ firstRefusal m s 0 (length words) (commandsIn t)
+    first m = ap (firstRefusal m s 0 (length words)) (f .parts) ∙ first-same longForm m s 0 (length words) commands each (f .low)
 
     taken : allWords s (commandsIn u) ≡ allWords s (commandsIn t)
     taken = ap (allWords s) (f .parts) ∙ words-same longForm s commands each
@@ -119,7 +120,7 @@ module _ (list long : List ℕ) (f : Forms list long) where
         λ i.
         let n = firstOf (screenRows m screen ++ rows i) in
         cond (not (eqb n 0)) (record { number = n; place = 0 })
-        (cond (not (eqb (first i .number) 0)) (first i)
+        (cond (not (eqb (first m i .number) 0)) (first m i)
         (record { number = firstOf (row 16 (ltb (taken i) (length words)) ∷ []); place = 0 }))
 
     -- ---- compiling
@@ -197,12 +198,13 @@ module _ (list long : List ℕ) (f : Forms list long) where
         drawn-memory = λ screen words. memory-same screen words memorySize;
       }
 
--- every list that is turned long
-pub forms-turned : (list target : List ℕ) → turning shortForm longForm list (length target) .number ≡ 0 → Forms list (turnedGiven shortForm longForm list target)
-forms-turned list target e =
+-- every such list that is turned long
+forms-turned : (list target : List ℕ) → turning shortForm longForm list (length target) .number ≡ 0 → noneAbove (partsOf shortForm list) ≡ true
+    → Forms list (turnedGiven shortForm longForm list target)
+forms-turned list target e none =
     let a = accepted-says shortForm longForm list (length target) e in
     subst (Forms list) (sym (given-is shortForm longForm list target a))
-    (record { listed = a .listed; listed-long = list-turned shortForm longForm list (a .listed) refl; parts = parts-turned shortForm longForm list refl refl })
+    (record { low = none; listed = a .listed; listed-long = list-turned shortForm longForm list (a .listed) refl; parts = parts-turned shortForm longForm list refl refl })
 
 pub turned-same : TurnedSame
-turned-same list target e none = same-task list (turnedGiven shortForm longForm list target) (forms-turned list target e)
+turned-same list target e none = same-task list (turnedGiven shortForm longForm list target) (forms-turned list target e none)

@@ -110,8 +110,8 @@ module _ (screen : List ℕ) (t : Strip) (accepts : firstOf (screenRows memorySi
 
   pub accepted : taskRefusal memorySize job .number ≡ 0
   accepted =
-      let first : firstRefusal s 0 (length (stripWords t)) (commandsIn job) .number ≡ 0 =
-      ap (λ (bs : List (List ℕ)). firstRefusal s 0 (length (stripWords t)) bs .number) commands-are ∙ none-refused s cs all-ok 0 (length (stripWords t)) (omega (arith, takes-all)) in
+      let first : firstRefusal memorySize s 0 (length (stripWords t)) (commandsIn job) .number ≡ 0 =
+      ap (λ (bs : List (List ℕ)). firstRefusal memorySize s 0 (length (stripWords t)) bs .number) commands-are ∙ none-refused s memorySize cs all-ok 0 (length (stripWords t)) (omega (arith, takes-all)) in
       ap (λ (r : Refusal). r .number) (by-end memorySize job accepts list-passes first)
       ∙ sym (words-fit job (omega (arith, all-taken s cs all-ok, takes-all, ap (λ (bs : List (List ℕ)). allWords s bs) commands-are)))
 

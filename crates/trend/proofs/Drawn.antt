@@ -13,7 +13,7 @@ use Rattle.record.specs.Lists.{AllBelow}
 use Rattle.record.specs.Checks.{firstOf}
 use Rattle.record.proofs.Checks.{row-passes, rows-end}
 use Rattle.screen.specs.declared.Screen.{Screen}
-use Rattle.command.specs.Command.{commandBytes, formed, placed, wordsTaken, commandRows, refusal}
+use Rattle.command.specs.Command.{commandBytes, formed, placed, clashes, wordsTaken, commandRows, refusal}
 use Rattle.command.specs.Task.{firstRefusal, allWords}
 use Rattle.command.specs.declared.Command.{Command}
 use Rattle.command.proofs.Bytes.{Fits, Storable, command-back}
@@ -22,11 +22,11 @@ use Rattle.unit.specs.Sheet.{sheetCommand, sheetCommands}
 use Rattle.unit.proofs.Listed.{length-sheet}
 use Rattle.wear.specs.Strip.{listBytes}
 
--- a command on the main image that is not refused where the words suffice
+-- a command on the main image that is not refused where the words suffice, in any memory
 pub record Ok (s : Screen) (c : Command) : Type 0 where
   pub storable : Storable c
   pub surface : c .surface ≡ 0
-  pub accepted : (left : ℕ) → wordsTaken s c ≤ left → refusal s left (commandBytes c) ≡ 0
+  pub accepted : (m left : ℕ) → wordsTaken s c ≤ left → refusal m s left (commandBytes c) ≡ 0
 
 unfoldable pub EachOk : Screen → List Command → Type 0
 EachOk s [] = Unit {0}
@@ -38,18 +38,19 @@ ok-append s [] b p q = q
 ok-append s (c ∷ a) b p q = (p .0, ok-append s a b (p .1) q)
 
 -- from its rows
-pub ok-by : (s : Screen) (c : Command) → Storable c → c .surface ≡ 0 → formed s (commandBytes c) c ≡ true → 0 < c .width → 0 < c .height → placed s c ≡ true → Ok s c
+pub ok-by : (s : Screen) (c : Command) → Storable c → c .surface ≡ 0 → ((m : ℕ) → formed m s (commandBytes c) c ≡ true) → 0 < c .width → 0 < c .height → placed s c ≡ true → clashes s c ≡ false → Ok s c
 unfolding refusal commandRows
-ok-by s c st z f w h p =
+ok-by s c st z f w h p k =
     record {
       storable = st;
       surface = z;
-      accepted = λ left k.
-          ap (λ (d : Command). firstOf (commandRows s left (commandBytes c) d)) (command-back c st)
-          ∙ sym (row-passes 12 _ (ap not f)
+      accepted = λ m left few.
+          ap (λ (d : Command). firstOf (commandRows m s left (commandBytes c) d)) (command-back c st)
+          ∙ sym (row-passes 12 _ (ap not (f m))
           (row-passes 13 _ (sized (c .width) (c .height) w h)
           (row-passes 14 _ (ap not p)
-          (row-passes 15 _ (le-ltb left (wordsTaken s c) k) rows-end))));
+          (row-passes 29 _ k
+          (row-passes 15 _ (le-ltb left (wordsTaken s c) few) rows-end)))));
     }
   where
     sized : (w h : ℕ) → 0 < w → 0 < h → (eqb w 0 || eqb h 0) ≡ false
@@ -84,14 +85,14 @@ module _ (s : Screen) where
   taken-append (c ∷ a) b = ap (λ (n : ℕ). wordsTaken s c + n) (taken-append a b) ∙ sym (add-assoc (wordsTaken s c) (taken s a) (taken s b))
 
   -- ---- the same by their records
-  pub none-refused : (cs : List Command) → EachOk s cs → (i left : ℕ) → taken s cs ≤ left → firstRefusal s i left (map commandBytes cs) .number ≡ 0
+  pub none-refused : (m : ℕ) (cs : List Command) → EachOk s cs → (i left : ℕ) → taken s cs ≤ left → firstRefusal m s i left (map commandBytes cs) .number ≡ 0
   unfolding firstRefusal EachOk taken
-  none-refused [] p i left h = refl
-  none-refused (c ∷ cs) p i left h =
+  none-refused m [] p i left h = refl
+  none-refused m (c ∷ cs) p i left h =
       let back = command-back c (p .0 .storable) in
-      ap (λ r. r .number) (refusal-go s i left (commandBytes c) (map commandBytes cs) (p .0 .accepted left (omega arith)))
-      ∙ ap (λ (d : Command). firstRefusal s (i + 1) (left - wordsTaken s d) (map commandBytes cs) .number) back
-      ∙ none-refused cs (p .1) (i + 1) (left - wordsTaken s c) (omega arith)
+      ap (λ r. r .number) (refusal-go m s i left (commandBytes c) (map commandBytes cs) (p .0 .accepted m left (omega arith)))
+      ∙ ap (λ (d : Command). firstRefusal m s (i + 1) (left - wordsTaken s d) (map commandBytes cs) .number) back
+      ∙ none-refused m cs (p .1) (i + 1) (left - wordsTaken s c) (omega arith)
 
   pub all-taken : (cs : List Command) → EachOk s cs → allWords s (map commandBytes cs) ≡ taken s cs
   unfolding allWords EachOk taken

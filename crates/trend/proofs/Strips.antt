@@ -1,7 +1,7 @@
 -- The strip's commands: none is refused, how many there are, and the host words that they take.
 use Prim.Native.Nat.{ℕ, zero, suc, _+_, _-_, _*_, _≤_, _<_}
 use mathlib.Core.Path.{_≡_, refl, sym, ap, ap₂, _∙_}
-use mathlib.Core.Bool.{Bool, true, false, not, _||_, cond}
+use mathlib.Core.Bool.{Bool, true, false, not, _&&_, _||_, cond}
 use mathlib.Core.List.{List, [], _∷_, _++_}
 use native.Mathlib.Omega.{arith}
 use native.Mathlib.Nat.{mul-le-mul-right, mul-comm}
@@ -12,7 +12,7 @@ use Rattle.record.specs.Bytes.{allZero}
 use Rattle.record.proofs.Choice.{both-ways}
 use Rattle.screen.specs.Screen.{mainImage}
 use Rattle.screen.specs.declared.Screen.{Screen}
-use Rattle.command.specs.Command.{commandBytes, surfaceOf, mustBeZero, formed, insideImage, placed, lineWords, wordsTaken}
+use Rattle.command.specs.Command.{commandBytes, surfaceOf, mustBeZero, formed, insideImage, placed, clashes, lineWords, wordsTaken}
 use Rattle.wear.specs.Font.{digitsOf, glyphOf}
 use Rattle.wear.specs.Strip.{columnHeight, glyphSize, fillAt, glyphAt, column, columns, writes, glyphWords, digitWords, digitsIn}
 use Rattle.wear.specs.Limits.{commandCount}
@@ -23,29 +23,29 @@ use Rattle.trend.proofs.Drawn.{Ok, EachOk, ok-by, ok-append, taken, tak
 
 -- ---- a fill and a glyph that the main image holds
 module _ (s : Screen) (narrow : mainImage s .width ≤ 1024) (short : mainImage s .height ≤ 1024) where
-  low-colour : (colour : ℕ) → (s .depth ≡ 8 → colour ≤ 255) → (not (eqb (s .depth) 8) || leb colour 255) ≡ true
+  low-colour : (colour : ℕ) → (s .depth ≡ 8 → colour ≤ 255) → (not (eqb (s .depth) 8) || (leb colour 255 && true)) ≡ true
   low-colour colour f = chosen (eqb (s .depth) 8) refl
     where
-      chosen : (t : Bool) → eqb (s .depth) 8 ≡ t → (not t || leb colour 255) ≡ true
-      chosen true e = le-leb colour 255 (f (eqb-true (s .depth) 8 e))
+      chosen : (t : Bool) → eqb (s .depth) 8 ≡ t → (not t || (leb colour 255 && true)) ≡ true
+      chosen true e = rw (le-leb colour 255 (f (eqb-true (s .depth) 8 e))) refl
       chosen false e = refl
 
   module _ (x y width height : ℕ) (wide : 0 < width) (high : 0 < height) (right : x + width ≤ mainImage s .width) (bottom : y + height ≤ mainImage s .height) where
     pub fill-ok : (colour : ℕ) → colour < 65536 → (s .depth ≡ 8 → colour ≤ 255) → Ok s (fillAt x y width height colour)
-    unfolding formed mustBeZero commandBytes allZero placed surfaceOf insideImage
+    unfolding formed mustBeZero commandBytes allZero placed surfaceOf insideImage clashes
     fill-ok colour h f =
         ok-by s (fillAt x y width height colour)
         (record { fits = record { operation = omega arith; surface = omega arith; raster = omega arith; x = omega arith; y = omega arith; width = omega arith; height = omega arith; sx = omega arith; sy = omega arith; colour = h }; key = refl; px = refl; py = refl; pattern = refl })
-        refl (rw (leb·zero (s .flag), low-colour colour f) refl) wide high
-        (rw (le-leb (x + width) (mainImage s .width) right, le-leb (y + height) (mainImage s .height) bottom) refl)
+        refl (λ m. rw (leb·zero (s .flag), low-colour colour f) refl) wide high
+        (rw (le-leb (x + width) (mainImage s .width) right, le-leb (y + height) (mainImage s .height) bottom) refl) refl
 
   pub glyph-ok : (x y : ℕ) → x + glyphSize ≤ mainImage s .width → y + glyphSize ≤ mainImage s .height → Ok s (glyphAt x y)
-  unfolding formed mustBeZero commandBytes allZero placed surfaceOf insideImage
+  unfolding formed mustBeZero commandBytes allZero placed surfaceOf insideImage clashes
   glyph-ok x y right bottom =
       ok-by s (glyphAt x y)
       (record { fits = record { operation = omega arith; surface = omega arith; raster = omega arith; x = omega arith; y = omega arith; width = omega arith; height = omega arith; sx = omega arith; sy = omega arith; colour = omega arith }; key = refl; px = refl; py = refl; pattern = refl })
-      refl (rw (leb·zero (s .flag), low-colour 0 (λ e. omega arith)) refl) (omega arith) (omega arith)
-      (rw (le-leb (x + glyphSize) (mainImage s .width) right, le-leb (y + glyphSize) (mainImage s .height) bottom) refl)
+      refl (λ m. rw (leb·zero (s .flag), low-colour 0 (λ e. omega arith)) refl) (omega arith) (omega arith)
+      (rw (le-leb (x + glyphSize) (mainImage s .width) right, le-leb (y + glyphSize) (mainImage s .height) bottom) refl) refl
 
   module _ (a : Ask) (wide : 0 < a .column) (bar : a .bar < 65536) (background : a .background < 65536) (bar-low : s .depth ≡ 8 → a .bar ≤ 255) (background-low : s .depth ≡ 8 → a .background ≤ 255) where
     module _ (right : a .x + a .hours * a .column ≤ mainImage s .width) (bottom : a .y + columnHeight ≤ mainImage s .height) where
