@@ -1,8 +1,10 @@
 -- 01's cases S1 to S9 and B1 to B3 (01, "Cases"), those of line lengths (02, c), of the S1D13706 (02, d), of where a point's pixel
--- stands (02, e) and of the long form (02, g) as one list.
+-- stands (02, e), of the long form (02, g), and of patterns and key colours (02, h) as one list.
 use Prim.Native.Nat.{ℕ}
 use mathlib.Core.List.{List, [], _∷_, _++_}
 use lib.ListN.{take, drop, replicate}
+use Rattle.record.specs.Bytes.{twoBytes, fourBytes}
+use Rattle.record.specs.Lists.{tabulate}
 use Rattle.record.specs.Record.{recordsOf}
 use Rattle.record.specs.declared.Record.{Record}
 use Rattle.screen.specs.Cases.{Case, case, screenCases, lineCases, lined, plain, withWindow}
@@ -90,6 +92,89 @@ drawCases =
     ∷ [])
     ∷ []
 
+-- ---- patterns and key colours (02, h)
+-- a command record of the long form: operation, raster code, rectangle, source, key colour, pattern x, y and address; on the main image
+abbrev pub longCommand : ℕ → ℕ → ℕ → ℕ → ℕ → ℕ → ℕ → ℕ → ℕ → ℕ → ℕ → ℕ → List ℕ
+longCommand operation raster x y width height sx sy key px py pattern =
+    command operation raster x y width height sx sy 0 ++ twoBytes key ++ px ∷ py ∷ fourBytes pattern ++ replicate 8 0
+
+-- a list of the long form over the first bytes of a memory, which alone are drawn on: compiling's number and playing's, for a memory of 262,144
+-- bytes; the last command's operation, source and destination, and its 8020h; then the bytes afterwards, by playing and on the sheet
+abbrev drawnBoth : List ℕ → List ℕ → List ℕ → List ℕ
+drawnBoth screen list memory =
+    let rs = recordsIn longForm screen list in
+    compiling memorySize (task longForm screen list []) 1024 .number
+    ∷ run memorySize newChip 0 rs .number
+    ∷ pairs (take 3 (drop 6 rs)) ++ pairs (take 1 (drop 12 rs))
+    ++ applied newChip rs memory
+    ++ sheetCommands (fieldsOf screen) (commandsIn (task longForm screen list [])) [] memory
+
+-- 0, 1, 2 .. of n bytes
+abbrev counted : ℕ → List ℕ
+counted n = tabulate n (λ k. k)
+
+-- ten lines of sixteen bytes, behind a pattern of 64
+abbrev hatchedScreen : List ℕ
+hatchedScreen = plain 8 0 16 10 64
+
+-- the lines of a rectangle of 11 by 9 at (2, 1), all else 200
+abbrev around : List ℕ → List ℕ
+around line = 200 ∷ 200 ∷ line ++ (200 ∷ 200 ∷ 200 ∷ [])
+
+abbrev twice : List ℕ → List ℕ
+twice l = l ++ l
+
+-- pattern pixel (u, v) is 8 × v + u: from column 3, line 4 on, over more than eight columns and lines
+abbrev hatch : List ℕ
+hatch =
+    counted 64 ++ replicate 16 200
+    ++ around (35 ∷ 36 ∷ 37 ∷ 38 ∷ 39 ∷ 32 ∷ 33 ∷ 34 ∷ 35 ∷ 36 ∷ 37 ∷ [])
+    ++ around (43 ∷ 44 ∷ 45 ∷ 46 ∷ 47 ∷ 40 ∷ 41 ∷ 42 ∷ 43 ∷ 44 ∷ 45 ∷ [])
+    ++ around (51 ∷ 52 ∷ 53 ∷ 54 ∷ 55 ∷ 48 ∷ 49 ∷ 50 ∷ 51 ∷ 52 ∷ 53 ∷ [])
+    ++ around (59 ∷ 60 ∷ 61 ∷ 62 ∷ 63 ∷ 56 ∷ 57 ∷ 58 ∷ 59 ∷ 60 ∷ 61 ∷ [])
+    ++ around (3 ∷ 4 ∷ 5 ∷ 6 ∷ 7 ∷ 0 ∷ 1 ∷ 2 ∷ 3 ∷ 4 ∷ 5 ∷ [])
+    ++ around (11 ∷ 12 ∷ 13 ∷ 14 ∷ 15 ∷ 8 ∷ 9 ∷ 10 ∷ 11 ∷ 12 ∷ 13 ∷ [])
+    ++ around (19 ∷ 20 ∷ 21 ∷ 22 ∷ 23 ∷ 16 ∷ 17 ∷ 18 ∷ 19 ∷ 20 ∷ 21 ∷ [])
+    ++ around (27 ∷ 28 ∷ 29 ∷ 30 ∷ 31 ∷ 24 ∷ 25 ∷ 26 ∷ 27 ∷ 28 ∷ 29 ∷ [])
+    ++ around (35 ∷ 36 ∷ 37 ∷ 38 ∷ 39 ∷ 32 ∷ 33 ∷ 34 ∷ 35 ∷ 36 ∷ 37 ∷ [])
+
+-- a rectangle of 9 by 2 at (0, 8) with key colour 7, from column 5, line 7 on: where the pattern is 7, its line 0, the old pixel stays
+abbrev keyHatch : List ℕ
+keyHatch =
+    counted 64 ++ replicate 128 200
+    ++ (61 ∷ 62 ∷ 63 ∷ 56 ∷ 57 ∷ 58 ∷ 59 ∷ 60 ∷ 61 ∷ replicate 7 200)
+    ++ (5 ∷ 6 ∷ 200 ∷ 0 ∷ 1 ∷ 2 ∷ 3 ∷ 4 ∷ 5 ∷ replicate 7 200)
+
+-- one line of eight pixels at depth 16, behind a pattern of 128 bytes, of which pixel (u, v) has the bytes 16 × v + 2 × u and the next
+abbrev wideHatch : List ℕ
+wideHatch = counted 128 ++ (255 ∷ 255 ∷ 221 ∷ 220 ∷ 219 ∷ 218 ∷ 217 ∷ 216 ∷ replicate 8 255)
+
+-- B2's line, and a transparent move on it
+abbrev line8 : List ℕ
+line8 = 1 ∷ 2 ∷ 3 ∷ 4 ∷ 5 ∷ 6 ∷ 7 ∷ 8 ∷ []
+
+abbrev seenThrough : ℕ → ℕ → ℕ → ℕ → List ℕ
+seenThrough from to width key = drawnBoth (plain 8 0 8 1 0) (longCommand 5 0 to 0 width 1 from 0 key 0 0 0) line8
+
+unfoldable pub patternCases : List Case
+patternCases =
+    -- a hatch under code Ch, one with key colour, one at depth 16 under exclusive or, over FFh
+    case (drawnBoth hatchedScreen (longCommand 3 0xC 2 1 11 9 0 0 0 3 4 0) (counted 64 ++ replicate 160 200))
+    (0 ∷ 0 ∷ 0x8008 ∷ 0xC0006 ∷ 0x800C ∷ 35 ∷ 0x8010 ∷ 82 ∷ 0x8020 ∷ 0 ∷ twice hatch)
+    ∷ case (drawnBoth hatchedScreen (longCommand 4 0 0 8 9 2 0 0 7 5 7 0) (counted 64 ++ replicate 160 200))
+    (0 ∷ 0 ∷ 0x8008 ∷ 7 ∷ 0x800C ∷ 61 ∷ 0x8010 ∷ 192 ∷ 0x8020 ∷ 7 ∷ twice keyHatch)
+    ∷ case (drawnBoth (plain 16 0 8 1 128) (longCommand 3 6 1 0 3 1 0 0 0 1 2 0) (counted 128 ++ replicate 16 255))
+    (0 ∷ 0 ∷ 0x8008 ∷ 0x60006 ∷ 0x800C ∷ 34 ∷ 0x8010 ∷ 130 ∷ 0x8020 ∷ 0 ∷ twice wideHatch)
+    -- a see-through copy to the left, overlapping, and to the right, side by side: pixels 4 and 3 are not copied
+    ∷ case (seenThrough 1 0 7 4)
+    (0 ∷ 0 ∷ 0x8008 ∷ 5 ∷ 0x800C ∷ 1 ∷ 0x8010 ∷ 0 ∷ 0x8020 ∷ 4 ∷ twice (2 ∷ 3 ∷ 3 ∷ 5 ∷ 6 ∷ 7 ∷ 8 ∷ 8 ∷ []))
+    ∷ case (seenThrough 0 4 4 3)
+    (0 ∷ 0 ∷ 0x8008 ∷ 5 ∷ 0x800C ∷ 0 ∷ 0x8010 ∷ 4 ∷ 0x8020 ∷ 3 ∷ twice (1 ∷ 2 ∷ 3 ∷ 4 ∷ 1 ∷ 2 ∷ 7 ∷ 4 ∷ []))
+    -- to the right, overlapping: 29, and so is a pattern of which the rectangle's first pixel is a byte
+    ∷ case (compiling memorySize (task longForm (plain 8 0 8 1 0) (longCommand 5 0 1 0 7 1 0 0 3 0 0 0) []) 1024 .number ∷ []) (29 ∷ [])
+    ∷ case (compiling memorySize (task longForm (plain 8 0 16 10 64) (longCommand 3 0xC 0 0 1 1 0 0 0 0 0 64) []) 1024 .number ∷ []) (29 ∷ [])
+    ∷ []
+
 -- where the pixel of panel point (p, q) of a screen stands, byte and place of the highest bit: by the chip's walk, then on the sheet
 abbrev stands : List ℕ → ℕ → ℕ → List ℕ
 stands screen p q =
@@ -130,4 +215,4 @@ pointCases =
     ∷ []
 
 unfoldable pub cases : List Case
-cases = screenCases ++ lineCases ++ drawCases ++ exampleCases ++ olderCases ++ pointCases
+cases = screenCases ++ lineCases ++ drawCases ++ patternCases ++ exampleCases ++ olderCases ++ pointCases
