@@ -122,14 +122,9 @@ insideImage i x y width height = leb (x + width) (i .width) && leb (y + height) 
 -- not refused by 14: the destination, and a move's source, is inside the surface; "Number 14 takes operation 5's source as a move's" (02, h)
 unfoldable pub placed : Screen → Command → Bool
 placed s c =
+    let source = insideImage (surfaceOf s c) (c .sx) (c .sy) (c .width) (c .height) in
     insideImage (surfaceOf s c) (c .x) (c .y) (c .width) (c .height)
-    && byOperation (c .operation)
-    true
-    (insideImage (surfaceOf s c) (c .sx) (c .sy) (c .width) (c .height))
-    true
-    true
-    true
-    (insideImage (surfaceOf s c) (c .sx) (c .sy) (c .width) (c .height))
+    && byOperation (c .operation) true source true true true source
 
 -- the bytes of a command's rectangle, from the address of its upper left pixel on, and those of its pattern, which stand side by side
 abbrev pub rectangleAt : Screen → Command → ℕ → Lines
@@ -142,13 +137,9 @@ patternAt s c = record { at = c .pattern; line = 0; size = patternSize (s .depth
 -- address is greater" (02, h)
 unfoldable pub clashes : Screen → Command → Bool
 clashes s c =
-    byOperation (c .operation)
-    false
-    false
-    false
-    (shareByte (rectangleAt s c (destinationOf s c)) (patternAt s c))
-    (shareByte (rectangleAt s c (destinationOf s c)) (patternAt s c))
-    (ltb (sourceOf s c) (destinationOf s c) && shareByte (rectangleAt s c (sourceOf s c)) (rectangleAt s c (destinationOf s c)))
+    let pattern = shareByte (rectangleAt s c (destinationOf s c)) (patternAt s c) in
+    let source = shareByte (rectangleAt s c (sourceOf s c)) (rectangleAt s c (destinationOf s c)) in
+    byOperation (c .operation) false false false pattern pattern (ltb (sourceOf s c) (destinationOf s c) && source)
 
 -- host words of a line: (width + 1) ÷ 2 at depth 8, width at 16
 unfoldable pub lineWords : ℕ → ℕ → ℕ

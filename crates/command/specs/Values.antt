@@ -31,13 +31,8 @@ patternValue s c = c .pattern + (8 * c .py + c .px) * s .depth / 8
 -- 800Ch: a move's start address, "0 for write", where a pattern begins
 unfoldable pub sourceValue : Screen → Command → ℕ
 sourceValue s c =
-    byOperation (c .operation)
-    0
-    (addressOf (s .depth) (surfaceOf s c) (c .sx + lastColumn s c) (c .sy + lastLine s c))
-    0
-    (patternValue s c)
-    (patternValue s c)
-    (sourceOf s c)
+    let move = addressOf (s .depth) (surfaceOf s c) (c .sx + lastColumn s c) (c .sy + lastLine s c) in
+    byOperation (c .operation) 0 move 0 (patternValue s c) (patternValue s c) (sourceOf s c)
 
 -- 8010h
 unfoldable pub destinationValue : Screen → Command → ℕ
@@ -56,13 +51,7 @@ blitRegisters = 0x8008 ∷ 0x800C ∷ 0x8010 ∷ 0x8014 ∷ 0x8018 ∷ 0x801C �
 abbrev pub usedRegisters : ℕ → List ℕ
 usedRegisters operation =
     (0x8008 ∷ 0x8010 ∷ 0x8014 ∷ 0x8018 ∷ 0x801C ∷ 0x8000 ∷ [])
-    ++ byOperation operation
-    (0x8024 ∷ [])
-    (0x800C ∷ [])
-    (0x800C ∷ [])
-    (0x800C ∷ [])
-    (0x800C ∷ 0x8020 ∷ [])
-    (0x800C ∷ 0x8020 ∷ [])
+    ++ byOperation operation (0x8024 ∷ []) (0x800C ∷ []) (0x800C ∷ []) (0x800C ∷ []) (0x800C ∷ 0x8020 ∷ []) (0x800C ∷ 0x8020 ∷ [])
 
 abbrev isOneOf : ℕ → List ℕ → Bool
 isOneOf n [] = false

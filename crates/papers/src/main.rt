@@ -48,7 +48,7 @@ fn write_end(all: bool) {
 
 // Takes the steps, line by line. Each function does its part of a step, if it has one.
 fn run(script: &[u8]) {
-    let mut desk = [0u8; 72];
+    let mut desk = [0u8; 92];
     let mut words = [0u16; 1001];
     let mut stream = [0u8; 16384];
     let mut memory = script_steps::zeros();

@@ -9,7 +9,7 @@ use lib.ListN.{length, take, drop}
 use lib.Seq.{take-all, length-take-le}
 use Rattle.record.proofs.Choice.{below-or-not}
 use Rattle.script.specs.Script.{numberAt}
-use Rattle.script.specs.Steps.{listOn}
+use Rattle.script.specs.Steps.{formOn, listOn}
 
 -- as many as there are
 pub taken : (l : List ℕ) (m n k : ℕ) → m ≡ min n (length l) → n ≡ k → take m l ≡ take k l
@@ -20,8 +20,8 @@ taken l m n k e f =
 pub length-taken : (l : List ℕ) (m n : ℕ) → m ≡ min n (length l) → m ≡ length (take m l)
 length-taken l m n e = sym (length-take-le m l (omega arith))
 
-pub list-on : (desk : List ℕ) (n : ℕ) → n ≡ numberAt desk 64 → take (32 + 32 * (n % 2) - 32) (drop 32 desk) ≡ listOn desk
-list-on desk n e = rw (e, add-sub-cancel-left)
+pub list-on : (desk : List ℕ) (form n : ℕ) → form ≡ formOn desk → n ≡ numberAt desk 80 → take (32 + form * (n % 2) - 32) (drop 32 desk) ≡ listOn desk
+list-on desk form n e f = rw (e, f, add-sub-cancel-left)
 
 -- an answer over parts is the one over equal parts
 pub at-parts : {A : Type 0} (f : List ℕ → List ℕ → A) {r : A} {l m u v : List ℕ} → r ≡ f l u → l ≡ m → u ≡ v → r ≡ f m v

@@ -1,15 +1,15 @@
 -- What each step of a script leaves: on the desk, in the host words, the stream and the memories, and as the answers of
 -- compiling and playing.
 --
--- The desk holds the screen record, from byte 32 on a command, at 64 how many commands there are (0 or 1), at 68 how many host
--- words.
+-- The desk holds the screen record, from byte 32 on a command with room for the long form, at 80 how many commands there are (0 or 1), at 84
+-- how many host words, and at 88 whether the list is in the long form.
 use Prim.Native.Nat.{ℕ, _*_, _%_}
 use mathlib.Core.List.{List, [], _∷_}
 use mathlib.Core.Bool.{Bool, _||_, cond}
 use lib.ListN.{take, drop, replicate}
 use lib.Dec.{eqb}
 use Rattle.screen.specs.Screen.{memorySize}
-use Rattle.command.specs.Task.{shortForm, Task, task}
+use Rattle.command.specs.Task.{shortForm, longForm, Task, task}
 use Rattle.compiler.specs.Compile.{compiling, bufferAfter, compilingOf, answerOf as compiledFrom}
 use Rattle.compiler.specs.declared.Compiled.{Compiled}
 use Rattle.older.specs.Compile.{olderCompiling, olderBuffer}
@@ -25,6 +25,10 @@ screenStep = 0x65726373
 -- comm
 abbrev pub commandStep : ℕ
 commandStep = 0x6D6D6F63
+
+-- long
+abbrev pub longStep : ℕ
+longStep = 0x676E6F6C
 
 -- word
 abbrev pub wordStep : ℕ
@@ -61,17 +65,22 @@ playStep = 0x79616C70
 -- ---- what is set
 -- where a screen line's numbers go: the last two are left out there, and so are 0
 abbrev pub screenPlaces : List ℕ
-screenPlaces = 0 ∷ 1 ∷ 2 ∷ 4 ∷ 6 ∷ 8 ∷ 12 ∷ 16 ∷ 18 ∷ 20 ∷ 22 ∷ 64 ∷ 68 ∷ []
+screenPlaces = 0 ∷ 1 ∷ 2 ∷ 4 ∷ 6 ∷ 8 ∷ 12 ∷ 16 ∷ 18 ∷ 20 ∷ 22 ∷ 80 ∷ 84 ∷ []
 
--- where a command line's numbers go
+-- where a command line's numbers go: the last is left out there, so that the list is in the short form
 abbrev pub commandPlaces : List ℕ
-commandPlaces = 32 ∷ 33 ∷ 34 ∷ 36 ∷ 38 ∷ 40 ∷ 42 ∷ 44 ∷ 46 ∷ 48 ∷ 68 ∷ []
+commandPlaces = 32 ∷ 33 ∷ 34 ∷ 36 ∷ 38 ∷ 40 ∷ 42 ∷ 44 ∷ 46 ∷ 48 ∷ 84 ∷ 88 ∷ []
 
--- the desk: the screen record without commands and words, or with the line's command as the only one
+-- where a long line's numbers go: key colour, pattern x, y and address
+abbrev pub longPlaces : List ℕ
+longPlaces = 64 ∷ 66 ∷ 67 ∷ 68 ∷ []
+
+-- the desk: the screen record without commands and words, or with the line's command as the only one, or that command with the long form's fields
 unfoldable pub deskAfter : ℕ → List ℕ → List ℕ → List ℕ
 deskAfter k line desk =
     cond (eqb k screenStep) (fieldsPut line 0 screenPlaces desk)
-    (cond (eqb k commandStep) (numberPut (fieldsPut line 0 commandPlaces desk) 64 1) desk)
+    (cond (eqb k commandStep) (numberPut (fieldsPut line 0 commandPlaces desk) 80 1)
+    (cond (eqb k longStep) (numberPut (fieldsPut line 0 longPlaces desk) 88 1) desk))
 
 -- the host words
 unfoldable pub wordsAfter : ℕ → List ℕ → List ℕ → List ℕ
@@ -98,17 +107,21 @@ memoryAfter k line memory = cond (keeps k) (replicate memorySize 0) (cond (eqb k
 abbrev pub screenOn : List ℕ → List ℕ
 screenOn desk = take 32 desk
 
+-- the list's form
+abbrev pub formOn : List ℕ → ℕ
+formOn desk = cond (eqb (numberAt desk 88) 0) shortForm longForm
+
 -- the command, if there is one
 abbrev pub listOn : List ℕ → List ℕ
-listOn desk = take (32 * (numberAt desk 64 % 2)) (drop 32 desk)
+listOn desk = take (formOn desk * (numberAt desk 80 % 2)) (drop 32 desk)
 
 -- as many host words as the desk says, or as there are
 abbrev pub wordsOn : List ℕ → List ℕ → List ℕ
-wordsOn desk words = take (numberAt desk 68) words
+wordsOn desk words = take (numberAt desk 84) words
 
 -- all of it
 abbrev pub taskOn : List ℕ → List ℕ → Task
-taskOn desk words = task shortForm (screenOn desk) (listOn desk) (wordsOn desk words)
+taskOn desk words = task (formOn desk) (screenOn desk) (listOn desk) (wordsOn desk words)
 
 -- the answer of the last compiling, for the S1D13A05 or the older S1D13706, into a stream buffer of `room` bytes
 unfoldable pub compiledAfter : ℕ → Compiled → List ℕ → List ℕ → ℕ → Compiled

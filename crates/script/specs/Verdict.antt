@@ -15,7 +15,7 @@ use Rattle.reader.specs.declared.Display.{Display}
 use Rattle.reader.specs.declared.PointAnswer.{PointAnswer}
 use Rattle.reader.specs.declared.PointAnswer.the-variants.{Shown, Refused}
 use Rattle.script.specs.Script.{numberAt, numberOf}
-use Rattle.script.specs.Steps.{screenStep, commandStep, wordStep, storeStep, patchStep, exampleStep, keepStep, compileStep, olderStep, playStep}
+use Rattle.script.specs.Steps.{screenStep, commandStep, longStep, wordStep, storeStep, patchStep, exampleStep, keepStep, compileStep, olderStep, playStep}
 use Rattle.script.specs.declared.Tally.{Tally}
 
 -- ---- the steps that only compare, and the end of an example
@@ -97,8 +97,9 @@ abbrev pub isSetting : ℕ → Bool
 isSetting k =
     eqb k screenStep
     || (eqb k commandStep
+    || (eqb k longStep
     || (eqb k wordStep
-    || (eqb k storeStep || (eqb k patchStep || (eqb k exampleStep || (eqb k keepStep || eqb k doneStep))))))
+    || (eqb k storeStep || (eqb k patchStep || (eqb k exampleStep || (eqb k keepStep || eqb k doneStep)))))))
 
 -- a line that is empty or begins with #
 abbrev pub isComment : List ℕ → Bool

@@ -1,12 +1,13 @@
 // What each step of a script leaves: on the desk, in the host words, the stream and the memories, and as the answers of compiling
 // and playing.
 //
-// The desk holds the screen record, from byte 32 on a command, at 64 how many commands there are (0 or 1), at 68 how many host
-// words.
+// The desk holds the screen record, from byte 32 on a command with room for the long form, at 80 how many commands there are (0 or 1), at 84
+// how many host words, and at 88 whether the list is in the long form.
 ghost use mathlib.Core.Path.{_≡_};
+ghost use Prim.Native.Nat.{_≤_};
 ghost use lib.ListN.{length, replicate};
 ghost use Rattle.compiler.specs.Compile.{compilingOf};
-ghost use Rattle.script.specs.Steps.{deskAfter, wordsAfter, streamPatched, keeps, keptAfter, memoryAfter, compiledAfter, streamAfter, playedAfter, memoryPlayed};
+ghost use Rattle.script.specs.Steps.{formOn, deskAfter, wordsAfter, streamPatched, keeps, keptAfter, memoryAfter, compiledAfter, streamAfter, playedAfter, memoryPlayed};
 use chip::Played;
 use compiler::Compiled;
 
@@ -14,6 +15,8 @@ use compiler::Compiled;
 pub const SCREEN: u32 = 0x65726373;
 
 pub const COMMAND: u32 = 0x6D6D6F63;
+
+pub const LONG: u32 = 0x676E6F6C;
 
 pub const WORD: u32 = 0x64726F77;
 
@@ -31,16 +34,21 @@ pub const OLDER: u32 = 0x65646C6F;
 
 pub const PLAY: u32 = 0x79616C70;
 
-// Where on the desk the numbers of commands and of host words are.
-const COMMANDS: usize = 64;
+// Where on the desk the numbers of commands and of host words are, and whether the list is in the long form.
+const COMMANDS: usize = 80;
 
-const WORDS: usize = 68;
+const WORDS: usize = 84;
+
+const FORM: usize = 88;
 
 // Where a screen line's numbers go; the last two are left out there, and so are 0.
 const SCREEN_PLACES: [usize; 13] = [0, 1, 2, 4, 6, 8, 12, 16, 18, 20, 22, COMMANDS, WORDS];
 
-// Where a command line's numbers go.
-const COMMAND_PLACES: [usize; 11] = [32, 33, 34, 36, 38, 40, 42, 44, 46, 48, WORDS];
+// Where a command line's numbers go; the last is left out there.
+const COMMAND_PLACES: [usize; 12] = [32, 33, 34, 36, 38, 40, 42, 44, 46, 48, WORDS, FORM];
+
+// Where a long line's numbers go.
+const LONG_PLACES: [usize; 4] = [64, 66, 67, 68];
 
 // A memory of zeros.
 pub fn zeros() -> [u8; 262144]
@@ -50,7 +58,7 @@ pub fn zeros() -> [u8; 262144]
 }
 
 // Sets what is compiled.
-pub fn set_desk(k: u32, line: &[u8], desk: &mut [u8; 72])
+pub fn set_desk(k: u32, line: &[u8], desk: &mut [u8; 92])
     ensures { λ _. ⌜ now (desk .exit) ≡ deskAfter k (now (line .entry)) (now (desk .entry)) ⌝ }
 {
     if k == SCREEN {
@@ -60,6 +68,11 @@ pub fn set_desk(k: u32, line: &[u8], desk: &mut [u8; 72])
     if k == COMMAND {
         script_code::put_fields(line, &COMMAND_PLACES, desk);
         script_code::put_number(desk, COMMANDS, 1);
+        return;
+    }
+    if k == LONG {
+        script_code::put_fields(line, &LONG_PLACES, desk);
+        script_code::put_number(desk, FORM, 1);
     }
 }
 
@@ -110,11 +123,21 @@ pub fn set_memory(k: u32, line: &[u8], memory: &mut [u8; 262144])
     }
 }
 
+// The form of the list on the desk.
+fn form_on(desk: &[u8]) -> u32
+    ensures { λ r. ⌜ (r ≡ formOn (now (desk .entry))) × (r ≤ 48) ⌝ }
+{
+    if script_code::number_at(desk, FORM) == 0 {
+        return 32;
+    }
+    48
+}
+
 // Compiles what is on the desk, at a step that says so, for the S1D13A05 or the older S1D13706; else the old answer.
 pub fn compile(
     k: u32,
     old: Compiled,
-    desk: &[u8; 72],
+    desk: &[u8; 92],
     words: &[u16; 1001],
     stream: &mut [u8; 16384],
 ) -> Compiled
@@ -124,15 +147,16 @@ pub fn compile(
     let bytes = &desk[..];
     let all = &words[..];
     let n = record_code::least(script_code::number_at(bytes, WORDS) as usize, all.len());
-    let end = 32 + 32 * (script_code::number_at(bytes, COMMANDS) % 2) as usize;
+    let form = form_on(bytes);
+    let end = 32 + (form * (script_code::number_at(bytes, COMMANDS) % 2)) as usize;
     let screen = &bytes[..32];
     let list = &bytes[32..end];
     let taken = &all[..n];
     if k == COMPILE {
-        return compiler_code::compile_into(32, screen, list, taken, stream);
+        return compiler_code::compile_into(form, screen, list, taken, stream);
     }
     if k == OLDER {
-        return older_code::compile_into(32, screen, list, taken, stream);
+        return older_code::compile_into(form, screen, list, taken, stream);
     }
     old
 }

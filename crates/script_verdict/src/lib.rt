@@ -65,7 +65,7 @@ fn has_records(line: &[u8], c: Compiled) -> bool
 }
 
 // The panel as compiling sets it, in the size that the desk has.
-fn display_on(c: Compiled, desk: &[u8; 72]) -> Display
+fn display_on(c: Compiled, desk: &[u8; 92]) -> Display
     ensures { λ r. ⌜ r ≡ displayOn c (now (desk .entry)) ⌝ }
 {
     let width = script_code::number_at(desk, 4) % 65536;
@@ -100,7 +100,7 @@ fn is_colour(line: &[u8], a: PointAnswer) -> bool
 }
 
 // Whether the line's panel point, after playing, shows the line's colour.
-fn is_point(line: &[u8], c: Compiled, p: Played, desk: &[u8; 72], memory: &[u8; 262144]) -> bool
+fn is_point(line: &[u8], c: Compiled, p: Played, desk: &[u8; 92], memory: &[u8; 262144]) -> bool
     ensures { λ r. ⌜ r ≡ isPoint (now (line .entry)) c p (now (desk .entry)) (now (memory .entry)) ⌝ }
 {
     match p {
@@ -127,11 +127,12 @@ fn is_setting(k: u32) -> bool
 {
     (k == script_steps::SCREEN)
         | ((k == script_steps::COMMAND)
-            | ((k == script_steps::WORD)
-                | ((k == script_steps::STORE)
-                    | ((k == script_steps::PATCH)
-                        | ((k == script_steps::EXAMPLE)
-                            | ((k == script_steps::KEEP) | (k == DONE)))))))
+            | ((k == script_steps::LONG)
+                | ((k == script_steps::WORD)
+                    | ((k == script_steps::STORE)
+                        | ((k == script_steps::PATCH)
+                            | ((k == script_steps::EXAMPLE)
+                                | ((k == script_steps::KEEP) | (k == DONE))))))))
 }
 
 // Whether a line is empty or begins with #.
@@ -150,7 +151,7 @@ pub fn check_line(
     line: &[u8],
     c: Compiled,
     p: Played,
-    desk: &[u8; 72],
+    desk: &[u8; 92],
     stream: &[u8; 16384],
     memory: &[u8; 262144],
     kept: &[u8; 262144],

@@ -60,10 +60,10 @@ each all at (x ∷ xs) (suc i) h e l =
     let f = rest-of all at x xs h e in
     each all (at + length (line x)) xs i (f .room) (f .rest) (omega arith)
 
-pub reason-between : (n : ℕ) → n ≤ 28 → Between (together reasons) (getD (starts 0 reasons) n 0) (getD (starts 0 reasons) (n + 1) 0) (reason n ++ letters "\n")
+pub reason-between : (n : ℕ) → n ≤ 29 → Between (together reasons) (getD (starts 0 reasons) n 0) (getD (starts 0 reasons) (n + 1) 0) (reason n ++ letters "\n")
 unfolding reason
 reason-between n h = rw add-one (each (together reasons) 0 reasons n (omega arith) refl (omega arith))
 
-pub no-reason : (n : ℕ) → 28 < n → letters "\n" ≡ reason n ++ letters "\n"
+pub no-reason : (n : ℕ) → 29 < n → letters "\n" ≡ reason n ++ letters "\n"
 unfolding reason
 no-reason n h = ap line (sym (List·getD-eq-default reasons "" {n = n} (omega arith)))

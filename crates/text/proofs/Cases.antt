@@ -41,6 +41,11 @@ form-reasons : (reason 10 ≡ letters "list not a multiple of 32 bytes (long for
 unfolding reason
 form-reasons = (refl, refl)
 
-no-reason : reason 29 ≡ []
+pattern-reasons : (reason 12 ≡ letters "operation, surface, raster code, colour or pattern out of range, or a spare byte not zero")
+    × (reason 29 ≡ letters "pattern, or source of a transparent move to a higher address, shares a byte with the destination")
+unfolding reason
+pattern-reasons = (refl, refl)
+
+no-reason : reason 30 ≡ []
 unfolding reason
 no-reason = refl

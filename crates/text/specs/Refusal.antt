@@ -5,7 +5,7 @@ use mathlib.Core.List.{List, [], _∷_, _++_}
 use lib.ListN.{getD}
 use Rattle.text.specs.Text.{letters, decimal}
 
--- why 0, 1 and so on are given (01, "Refusal numbers"; 02, c, d and f): what differs for the S1D13706 stands behind "13706:"
+-- why 0, 1 and so on are given (01, "Refusal numbers"; 02, c, d, f, g and h): what differs for the S1D13706 stands behind "13706:"
 abbrev pub reasons : List String
 reasons =
     "accepted"
@@ -20,7 +20,7 @@ reasons =
     ∷ "window base not a multiple of 4, or image past byte 262144 (13706: 81920)"
     ∷ "list not a multiple of 32 bytes (long form: 48), or over 64 commands"
     ∷ "a command at a depth below 8 (13706: at any depth)"
-    ∷ "operation, surface, raster code or colour too high, or a spare byte not zero"
+    ∷ "operation, surface, raster code, colour or pattern out of range, or a spare byte not zero"
     ∷ "rectangle width or height 0"
     ∷ "destination or source outside the surface"
     ∷ "too few host words"
@@ -37,6 +37,7 @@ reasons =
     ∷ "line length below the shown width, not a multiple of 32 / depth, or over 1023 dwords"
     ∷ "sample not 1 to 512 steps ahead or above 100, or age, hours, column, font, digit or place out of range"
     ∷ "operation above 2, or a byte past 31 not zero: no record of 32 bytes"
+    ∷ "pattern, or source of a transparent move to a higher address, shares a byte with the destination"
     ∷ []
 
 -- the reason of a number; none for one that is not given

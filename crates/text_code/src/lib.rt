@@ -38,7 +38,7 @@ pub fn put_decimal(text: &mut [u8], at: usize, n: u64) -> usize
 fn put_reason(text: &mut [u8], at: usize, number: u64) -> usize
     ensures { λ r. ⌜ Stored (now (text .entry)) at (reason number ++ letters "\n") (now (text .exit)) r ⌝ }
 {
-    if 28 < number {
+    if 29 < number {
         return put(text, at, b"\n");
     }
     let i = number as usize;

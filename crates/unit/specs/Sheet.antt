@@ -55,13 +55,10 @@ patternPixel depth c old i j = sheetPixel depth (patternImage depth c) old (pixe
 -- held just before; "5 takes s as a move does" (02, h)
 unfoldable pub sheetSource : Screen → Command → List ℕ → List ℕ → ℕ → ℕ → ℕ
 sheetSource s c words old i j =
-    byOperation (c .operation)
-    (c .colour)
-    (sheetPixel (s .depth) (surfaceOf s c) old (pixelAt (c .sx + i) (c .sy + j)))
-    (hostPixel (s .depth) (c .width) words i j)
-    (patternPixel (s .depth) c old i j)
-    (patternPixel (s .depth) c old i j)
-    (sheetPixel (s .depth) (surfaceOf s c) old (pixelAt (c .sx + i) (c .sy + j)))
+    let move = sheetPixel (s .depth) (surfaceOf s c) old (pixelAt (c .sx + i) (c .sy + j)) in
+    let write = hostPixel (s .depth) (c .width) words i j in
+    let pattern = patternPixel (s .depth) c old i j in
+    byOperation (c .operation) (c .colour) move write pattern pattern move
 
 -- s, or d kept where s is the key (02, h)
 abbrev pub unlessKey : ℕ → ℕ → ℕ → ℕ
@@ -71,13 +68,9 @@ unlessKey key source d = cond (eqb source key) d source
 -- 4 and 5 store s, or keep d where s is the key" (02, h)
 unfoldable pub sheetMix : Screen → Command → ℕ → ℕ → ℕ
 sheetMix s c source d =
-    byOperation (c .operation)
-    source
-    (raster (s .depth) (c .raster) source d)
-    (raster (s .depth) (c .raster) source d)
-    (raster (s .depth) (c .raster) source d)
-    (unlessKey (c .key) source d)
-    (unlessKey (c .key) source d)
+    let coded = raster (s .depth) (c .raster) source d in
+    let keyed = unlessKey (c .key) source d in
+    byOperation (c .operation) source coded coded coded keyed keyed
 
 -- what pixel (i, j) becomes, from what the sheet held just before
 unfoldable pub newPixel : Screen → Command → List ℕ → List ℕ → ℕ → ℕ → ℕ
