@@ -3,7 +3,7 @@ use mathlib.Core.Path.{_≡_, refl, sym, ap, ap₂, _∙_}
 use mathlib.Core.Logic.{⊎-elim}
 use mathlib.Core.List.{List, [], _∷_}
 use Prim.Native.Nat.{ℕ, zero, suc, _+_, _*_, _%_, _^_, _≤_, _<_}
-use native.Mathlib.Nat.{add-mul, mod-eq-of-lt, mod-lt, mul-assoc}
+use native.Mathlib.Nat.{add-mul, mod-add-mod, mod-eq-of-lt, mod-lt, mul-assoc}
 use native.Mathlib.Omega.{arith}
 use lib.Dec.{lit<}
 use lib.ListN.{length, getD, set}
@@ -71,3 +71,8 @@ module _ (bytes : ℕ) (memory : List ℕ) (a : ℕ) where
       ∙ row-pixel bytes memory (a + q * (8 * bytes)) p (mod-lt u (lit< tt))
       ∙ ap (getPixel bytes memory) place)
       ∙ mod-eq-of-lt (get-lt bytes memory (a + (q * 8 + p) * bytes) small)
+
+-- a column and a line to start from may be given by what is left over of eight
+pub rows-from : (bytes : ℕ) (rows : List (List ℕ)) (x y i k : ℕ) → rowsPixel bytes rows (x % 8 + i) (y % 8 + k) ≡ rowsPixel bytes rows (x + i) (y + k)
+unfolding rowsPixel
+rows-from bytes rows x y i k = ap₂ (λ (u v : ℕ). getD (getD rows v []) u 0 % 256 ^ bytes) (mod-add-mod x 8 i) (mod-add-mod y 8 k)
