@@ -3,28 +3,22 @@ use mathlib.Core.Path.{_≡_, refl, sym, ap, ap₂, _∙_}
 use mathlib.Core.Bool.{Bool, true, false}
 use mathlib.Core.Logic.{_⊎_, inl, inr, ⊎-elim}
 use mathlib.Core.List.{List, _++_}
-use Prim.Native.Nat.{ℕ, zero, suc, _+_, _-_, _*_, _/_, _%_, _^_, _≤_, _<_}
-use native.Mathlib.Nat.{add-mul, div-mul-cancel, dvd-of-mod-eq-zero, dvd-sub, mod-lt, pow-suc, suc-mul, zero-add}
+use Prim.Native.Nat.{ℕ, zero, suc, _+_, _-_, _*_, _/_, _%_, _≤_, _<_}
+use native.Mathlib.Nat.{add-mul, div-mul-cancel, dvd-of-mod-eq-zero, dvd-sub}
 use native.Mathlib.Omega.{arith}
 use borrow.Author.Tests.{lt-ltb, le-ltb}
 use borrow.Rule.Slice.PartMut.{put-same}
-use lib.Arith.{digits-div, digits-mod, mod-mul}
-use lib.Dec.{lit<}
 use lib.ListN.{length, take, drop, length-drop, length-take}
-use lib.Pow.{pow-pos}
 use Rattle.pixel.specs.Pixel.{getPixel, putPixel}
-use Rattle.pixel.specs.Raster.{bit, bitwise, raster}
-use Rattle.pixel.proofs.Pixels.{get-ext, get-part, get-put, get-put-below, put-part}
+use Rattle.pixel.proofs.Pixels.{get-ext, get-part, put-part}
 use Rattle.blit.specs.Blit.{pixels}
 use Rattle.blit.specs.Line.{rank, spot, lagged, workLine, straightLine, copied}
 use Rattle.blit_code.specs.Lines.{lagOf}
-use Rattle.blit.proofs.Runs.{below-or-not, step-fits, length-pixels, keep-pixels, pixels-ext}
+use Rattle.blit.proofs.Runs.{below-or-not, step-fits, length-pixels, keep-pixels}
 use Rattle.blit.proofs.Worker.{spot-fits}
 use Rattle.blit.proofs.Copy.{copied-pixel}
-use Rattle.blit.proofs.Straight.{pow-bytes}
 use Rattle.blit.specs.Job.{mixOf}
 use Rattle.blit.specs.declared.Mix.{Mix}
-use Rattle.blit.specs.declared.Mix.the-variants.{Raster}
 
 -- ---- a lent part put back
 
@@ -106,16 +100,6 @@ fill-put-back bytes width d k colour memory l′ size room e =
     part-back bytes (λ s d. s) (λ i. i * bytes) (λ m i. colour) (λ m i. colour) width d k memory
     (omega arith) (λ n h. omega (arith, step-fits bytes n width h)) (λ n l h len p. refl) l′ e
 
--- the same at the start of a list
-pub fill-start : (bytes width k colour : ℕ) (old l′ : List ℕ) → k ≡ width * bytes → width * bytes ≤ length old
-    → l′ ≡ straightLine bytes (λ s d. s) (λ i. colour) width (take k old)
-    → l′ ++ drop k old ≡ straightLine bytes (λ s d. s) (λ i. colour) width old
-unfolding straightLine
-fill-start bytes width k colour old l′ size room e =
-    fill-put-back bytes width 0 k colour old l′ size (omega arith) e
-    ∙ pixels-ext bytes (λ s d. s) (λ i. 0 + i * bytes) (λ i. i * bytes) (λ m i. colour) (λ m i. colour) width old
-    (λ i h. zero-add (i * bytes)) (λ m i h. refl)
-
 -- ---- a source that is known before
 
 pub sourced-given : (down : Bool) (bytes width d lag : ℕ) (mix : Mix) (f : ℕ → ℕ) (source memory : List ℕ) → width ≤ lag
@@ -123,50 +107,6 @@ pub sourced-given : (down : Bool) (bytes width d lag : ℕ) (mix : Mix) (f : ℕ
     → Sourced down bytes width d lag mix (λ m i. f i) source memory
 sourced-given down bytes width d lag mix f source memory le read =
     record { early = λ n h e. sym (read n h); late = λ m n h e. absurd (omega arith) }
-
--- ---- a source line of one colour
-
--- a pixel of it is the colour, cut to the bytes of a pixel
-pub filled-pixel : (bytes colour n : ℕ) (old : List ℕ) (k : ℕ) → k < n → n * bytes ≤ length old
-    → getPixel bytes (straightLine bytes (λ s d. s) (λ i. colour) n old) (k * bytes) ≡ colour % 256 ^ bytes
-unfolding straightLine pixels
-filled-pixel bytes colour zero old k h room = absurd (omega arith)
-filled-pixel bytes colour (suc n) old k h room =
-    let m : List ℕ = straightLine bytes (λ s d. s) (λ i. colour) n old in
-    let more : suc n * bytes ≡ n * bytes + bytes = suc-mul n bytes in
-    ⊎-elim
-    (λ p. get-put-below bytes bytes m (n * bytes) colour (k * bytes) (step-fits bytes k n p) ∙ filled-pixel bytes colour n old k p (omega arith))
-    (λ p.
-    let e : k ≡ n = omega arith in
-    let len : length m ≡ length old = length-pixels bytes (λ s d. s) (λ i. i * bytes) (λ x i. colour) n old in
-    rw e (get-put bytes m (n * bytes) colour (omega arith)))
-    (below-or-not k n)
-
--- of the source n bits count
-raster-rest : (n c s d : ℕ) → raster n c (s % 2 ^ n) d ≡ raster n c s d
-unfolding bitwise
-raster-rest zero c s d = refl
-raster-rest (suc n) c s d =
-    let parts : s % 2 ^ suc n ≡ s / 2 % 2 ^ n * 2 + s % 2 = ap (λ (p : ℕ). s % p) (pow-suc 2 n) ∙ mod-mul s (pow-pos n) (lit< tt) in
-    let low : s % 2 < 2 = mod-lt s (lit< tt) in
-    ap₂ (λ (x y : ℕ). raster n c x (d / 2) * 2 + bit c (2 * y + d % 2))
-    (ap (λ (x : ℕ). x / 2) parts ∙ digits-div (s / 2 % 2 ^ n) low)
-    (ap (λ (x : ℕ). x % 2) parts ∙ digits-mod (s / 2 % 2 ^ n) low)
-    ∙ ap (λ (x : ℕ). x * 2 + bit c (2 * (s % 2) + d % 2)) (raster-rest n c (s / 2) (d / 2))
-
--- so the colour may be cut
-mix-rest : (mix : Mix) (bytes code s d : ℕ) → mix ≡ Raster code → mixOf mix bytes (s % 256 ^ bytes) d ≡ mixOf mix bytes s d
-mix-rest mix bytes code s d e =
-    rw e (ap (λ (p : ℕ). raster (8 * bytes) code (s % p) d) (sym (pow-bytes bytes)) ∙ raster-rest (8 * bytes) code s d)
-
-pub cut-colour : (bytes : ℕ) (mix : Mix) (code colour : ℕ) (place : ℕ → ℕ) (n : ℕ) (m : List ℕ) → mix ≡ Raster code
-    → pixels bytes (mixOf mix bytes) place (λ x i. colour % 256 ^ bytes) n m ≡ pixels bytes (mixOf mix bytes) place (λ x i. colour) n m
-unfolding pixels
-cut-colour bytes mix code colour place zero m e = refl
-cut-colour bytes mix code colour place (suc n) m e =
-    let same = cut-colour bytes mix code colour place n m e in
-    ap₂ (λ (x : List ℕ) (v : ℕ). putPixel bytes x (place n) v) same
-    (mix-rest mix bytes code colour _ e ∙ ap (λ (x : List ℕ). mixOf mix bytes colour (getPixel bytes x (place n))) same)
 
 -- ---- a move's source
 

@@ -1,25 +1,27 @@
 -- A job line by line: each line of the worker, put back, is the chip's.
-use mathlib.Core.Path.{_≡_, refl, sym, ap, ap₂, _∙_, subst}
+use mathlib.Core.Path.{_≡_, refl, sym, ap, ap₂, _∙_, subst, fun-ext}
 use mathlib.Core.Bool.{Bool, true, false}
-use mathlib.Core.List.{List, _++_}
-use Prim.Native.Nat.{ℕ, suc, _+_, _-_, _*_, _/_, _%_, _^_, _≤_, _<_}
+use mathlib.Core.List.{List, [], _++_}
+use Prim.Native.Nat.{ℕ, suc, _+_, _-_, _*_, _/_, _%_, _^_, _≤_, _<_, max}
 use native.Mathlib.Nat.{add-mul, dvd-add, dvd-mul-left, dvd-mul-left-of-dvd, dvd-of-mod-eq-zero, dvd-refl, dvd-sub, mod-eq-zero-of-dvd, mul-le-mul, mul-le-mul-right, suc-mul}
 use native.Mathlib.Omega.{arith}
 use borrow.Author.Tests.{lt-ltb, le-ltb}
-use lib.ListN.{length, take, drop}
+use lib.ListN.{length, getD, take, drop}
 use Rattle.pixel.specs.Pixel.{getPixel}
-use Rattle.blit.specs.Blit.{Direction, towards, along, sourcePixel, pixels, chipLine, chipLines, chipBlit}
-use Rattle.blit.specs.Job.{mixOf, sourceOf, blitOf, performed, LineIn, SourceIn, JobOk}
+use Rattle.blit.specs.Blit.{Source, given, memory as inMemory, towards, along, sourcePixel, pixels, chipLine, chipLines, chipBlit}
+use Rattle.blit.specs.Job.{mixOf, patternPixel, sourceOf, blitOf, performed, LineIn, SourceIn, JobOk}
 use Rattle.blit.specs.Line.{rank, spot, workLine, straightLine, copied, LineOk}
 use Rattle.blit.specs.declared.Mix.{Mix}
-use Rattle.blit.specs.declared.Mix.the-variants.{Store, Raster}
+use Rattle.blit.specs.declared.Mix.the-variants.{Store}
 use Rattle.blit.specs.declared.From.{From}
-use Rattle.blit.specs.declared.From.the-variants.{Colour, Memory}
+use Rattle.blit.specs.declared.From.the-variants.{Colour, Memory, Pattern}
 use Rattle.blit.specs.declared.Job.{Job}
 use Rattle.blit.proofs.Runs.{pixels-ext}
-use Rattle.blit.proofs.Worker.{rank-lt}
+use Rattle.blit_pattern.specs.Pattern.{patternRows, rowsPixel}
+use Rattle.blit_pattern.proofs.Rows.{rows-from, rows-pixel}
+use Rattle.blit_pattern.proofs.Tiles.{stored-pixel}
 use Rattle.blit_code.specs.Lines.{lagOf, lowEnd, AboveZero}
-use Rattle.blit_code.proofs.Lift.{cut-colour, fill-put-back, filled-pixel, put-back, sourced-given, sourced-move}
+use Rattle.blit_code.proofs.Lift.{fill-put-back, put-back, sourced-move}
 
 -- ---- lags
 
@@ -89,12 +91,17 @@ low-spot true bytes line width a m j i p h =
 
 -- ---- a job's lines in the memory
 
-source-colour : (from : From) (c : ℕ) (down : Bool) (bytes line width m j : ℕ) → from ≡ Colour c → SourceIn from down bytes line width m j → down ≡ false
-source-colour from c down bytes line width m j e p = subst (λ (x : From). SourceIn x down bytes line width m j) e p
+source-colour : (from : From) (c : ℕ) (mix : Mix) (down : Bool) (bytes line width m j : ℕ) → from ≡ Colour c
+    → SourceIn from mix down bytes line width m j → (down ≡ false) × (mix ≡ Store)
+source-colour from c mix down bytes line width m j e p = subst (λ (x : From). SourceIn x mix down bytes line width m j) e p
 
-source-memory : (from : From) (s : ℕ) (down : Bool) (bytes line width m j : ℕ) → from ≡ Memory s → SourceIn from down bytes line width m j
-    → LineIn down bytes line width s m j × (s % bytes ≡ 0)
-source-memory from s down bytes line width m j e p = subst (λ (x : From). SourceIn x down bytes line width m j) e p
+source-memory : (from : From) (s : ℕ) (mix : Mix) (down : Bool) (bytes line width m j : ℕ) → from ≡ Memory s
+    → SourceIn from mix down bytes line width m j → LineIn down bytes line width s m j × (s % bytes ≡ 0)
+source-memory from s mix down bytes line width m j e p = subst (λ (x : From). SourceIn x mix down bytes line width m j) e p
+
+source-pattern : (from : From) (a x y : ℕ) (mix : Mix) (down : Bool) (bytes line width m j : ℕ) → from ≡ Pattern a x y
+    → SourceIn from mix down bytes line width m j → (down ≡ false) × (a + 64 * bytes ≤ m)
+source-pattern from a x y mix down bytes line width m j e p = subst (λ (z : From). SourceIn z mix down bytes line width m j) e p
 
 -- the low end of line j of a job, drawn from address a
 abbrev low : Job → ℕ → ℕ → ℕ
@@ -122,7 +129,7 @@ module _ (m : ℕ) (job : Job) (ok : JobOk m job) where
   from-line : (s : ℕ) → job .from ≡ Memory s → (j : ℕ) → j < job .height → LineIn (job .down) (job .bytes) (job .line) (job .width) s m j
   from-line s e j h =
       all-lines (job .down) (job .bytes) (job .line) (job .width) s m (job .height) (ok .some-height)
-      (source-memory (job .from) s (job .down) (job .bytes) (job .line) (job .width) m (job .height - 1) e (ok .source) .0) j h
+      (source-memory (job .from) s (job .mix) (job .down) (job .bytes) (job .line) (job .width) m (job .height - 1) e (ok .source) .0) j h
 
   pub from-zero : (s : ℕ) → job .from ≡ Memory s → (j : ℕ) → j < job .height → AboveZero (job .down) (job .bytes) (job .line) (job .width) s j
   from-zero s e j h = above-zero (job .down) (job .bytes) (job .line) (job .width) s m j (from-line s e j h)
@@ -131,76 +138,66 @@ module _ (m : ℕ) (job : Job) (ok : JobOk m job) where
   from-room s e j r h er = low-room (job .down) (job .bytes) (job .line) (job .width) s m j r (from-line s e j h) er
 
   from-even : (s : ℕ) → job .from ≡ Memory s → s % job .bytes ≡ 0
-  from-even s e = source-memory (job .from) s (job .down) (job .bytes) (job .line) (job .width) m (job .height - 1) e (ok .source) .1
+  from-even s e = source-memory (job .from) s (job .mix) (job .down) (job .bytes) (job .line) (job .width) m (job .height - 1) e (ok .source) .1
 
-  -- a blit of one colour goes upwards
-  goes-up : (c : ℕ) → job .from ≡ Colour c → job .down ≡ false
-  goes-up c e = source-colour (job .from) c (job .down) (job .bytes) (job .line) (job .width) m (job .height - 1) e (ok .source)
+  -- a blit of one colour goes upwards and stores it
+  of-colour : (c : ℕ) → job .from ≡ Colour c → (job .down ≡ false) × (job .mix ≡ Store)
+  of-colour c e = source-colour (job .from) c (job .mix) (job .down) (job .bytes) (job .line) (job .width) m (job .height - 1) e (ok .source)
+
+  -- a pattern goes upwards and lies in the memory
+  pub of-pattern : (a x y : ℕ) → job .from ≡ Pattern a x y → (job .down ≡ false) × (a + 64 * job .bytes ≤ m)
+  of-pattern a x y e = source-pattern (job .from) a x y (job .mix) (job .down) (job .bytes) (job .line) (job .width) m (job .height - 1) e (ok .source)
 
 -- ---- a line of the chip
 
 -- by its source, in places of the line
-chip-line : (job : Job) (j m : ℕ) (fetch : List ℕ → ℕ → ℕ) (memory : List ℕ)
+chip-line : (job : Job) (source : Source) (j m : ℕ) (fetch : List ℕ → ℕ → ℕ) (memory : List ℕ)
     → LineIn (job .down) (job .bytes) (job .line) (job .width) (job .destination) m j
-    → ((x : List ℕ) (i : ℕ) → i < job .width
-    → fetch x i ≡ sourcePixel (job .bytes) (towards (job .down)) x (sourceOf (job .from)) (j * job .line + i * job .bytes) i j)
+    → ((x : List ℕ) (i : ℕ) → i < job .width → fetch x i ≡ sourcePixel (job .bytes) (towards (job .down)) x source (j * job .line + i * job .bytes) i j)
     → pixels (job .bytes) (mixOf (job .mix) (job .bytes)) (λ i. low job (job .destination) j + spot (job .down) (job .bytes) (job .width) i)
     fetch (job .width) memory
-    ≡ chipLine (blitOf job) (towards (job .down)) j (job .width) memory
+    ≡ chipLine (blitOf job source) (towards (job .down)) j (job .width) memory
 unfolding chipLine blitOf
-chip-line job j m fetch memory p e =
+chip-line job source j m fetch memory p e =
     pixels-ext (job .bytes) (mixOf (job .mix) (job .bytes)) (λ i. low job (job .destination) j + spot (job .down) (job .bytes) (job .width) i)
     (λ i. along (towards (job .down)) (job .destination) (j * job .line + i * job .bytes)) fetch
-    (λ x i. sourcePixel (job .bytes) (towards (job .down)) x (sourceOf (job .from)) (j * job .line + i * job .bytes) i j) (job .width) memory
+    (λ x i. sourcePixel (job .bytes) (towards (job .down)) x source (j * job .line + i * job .bytes) i j) (job .width) memory
     (λ i h. sym (low-spot (job .down) (job .bytes) (job .line) (job .width) (job .destination) m j i p h)) e
 
-of-colour : (from : From) (c bytes n i j : ℕ) (dir : Direction) (x : List ℕ) → from ≡ Colour c → c ≡ sourcePixel bytes dir x (sourceOf from) n i j
-of-colour from c bytes n i j dir x e = ap (λ (y : From). sourcePixel bytes dir x (sourceOf y) n i j) (sym e)
-
-of-memory : (from : From) (s bytes n i j a : ℕ) (dir : Direction) (x : List ℕ) → from ≡ Memory s → along dir s n ≡ a
-    → getPixel bytes x a ≡ sourcePixel bytes dir x (sourceOf from) n i j
-of-memory from s bytes n i j a dir x e h = sym (ap (getPixel bytes x) h) ∙ ap (λ (y : From). sourcePixel bytes dir x (sourceOf y) n i j) (sym e)
+-- a line of a source that is known before, drawn upwards from its low end
+pub given-line : (job : Job) (memory : List ℕ) → JobOk (length memory) job → (f : ℕ → ℕ → ℕ) (j d : ℕ) (fetch : List ℕ → ℕ → ℕ) → j < job .height
+    → job .down ≡ false → d ≡ low job (job .destination) j → ((x : List ℕ) (i : ℕ) → i < job .width → fetch x i ≡ f i j)
+    → pixels (job .bytes) (mixOf (job .mix) (job .bytes)) (λ i. d + i * job .bytes) fetch (job .width) memory
+    ≡ chipLine (blitOf job (given f)) (towards (job .down)) j (job .width) memory
+unfolding rank
+given-line job memory ok f j d fetch hj up ed same =
+    ap₂ (λ (x : ℕ) (t : Bool).
+    pixels (job .bytes) (mixOf (job .mix) (job .bytes)) (λ i. x + spot t (job .bytes) (job .width) i) fetch (job .width) memory) ed (sym up)
+    ∙ chip-line job (given f) j (length memory) fetch memory (to-line (length memory) job ok j hj) same
 
 -- a line of one colour
-chip-colour : (job : Job) (memory : List ℕ) → JobOk (length memory) job → (j c d : ℕ) → j < job .height → job .from ≡ Colour c
-    → d ≡ low job (job .destination) j
-    → pixels (job .bytes) (mixOf (job .mix) (job .bytes)) (λ i. d + spot (job .down) (job .bytes) (job .width) i) (λ m i. c) (job .width) memory
-    ≡ chipLine (blitOf job) (towards (job .down)) j (job .width) memory
-chip-colour job memory ok j c d hj ef ed =
-    ap (λ (x : ℕ).
-    pixels (job .bytes) (mixOf (job .mix) (job .bytes)) (λ i. x + spot (job .down) (job .bytes) (job .width) i) (λ m i. c) (job .width) memory) ed
-    ∙ chip-line job j (length memory) (λ m i. c) memory (to-line (length memory) job ok j hj)
-    (λ x i h. of-colour (job .from) c (job .bytes) (j * job .line + i * job .bytes) i j (towards (job .down)) x ef)
-
--- that the worker drew from a source line of the colour
-pub colour-back : (job : Job) (memory : List ℕ) → JobOk (length memory) job → (j c d k lag code : ℕ) (old source l′ : List ℕ) → j < job .height
-    → job .from ≡ Colour c → d ≡ low job (job .destination) j → k ≡ job .width * job .bytes → job .mix ≡ Raster code → job .width ≤ lag
-    → job .width * job .bytes ≤ length old → source ≡ straightLine (job .bytes) (λ s d. s) (λ i. c) (job .width) old
-    → l′ ≡ workLine (job .down) (job .bytes) (job .width) (job .mix) source lag (job .width) (take k (drop d memory))
-    → take d memory ++ (l′ ++ drop k (drop d memory)) ≡ chipLine (blitOf job) (towards (job .down)) j (job .width) memory
-colour-back job memory ok j c d k lag code old source l′ hj ef ed ek ec el room es e =
-    put-back (job .down) (job .bytes) (job .width) d k lag (job .mix) (λ m i. c % 256 ^ job .bytes) source memory ek
-    (to-room (length memory) job ok j d hj ed)
-    (sourced-given (job .down) (job .bytes) (job .width) d lag (job .mix) (λ i. c % 256 ^ job .bytes) source memory el
-    (λ n h.
-    ap (λ (x : List ℕ). getPixel (job .bytes) x (spot (job .down) (job .bytes) (job .width) n)) es
-    ∙ filled-pixel (job .bytes) c (job .width) old (rank (job .down) (job .width) n) (rank-lt (job .down) (job .width) n h) room))
-    l′ e
-    ∙ cut-colour (job .bytes) (job .mix) code c (λ i. d + spot (job .down) (job .bytes) (job .width) i) (job .width) memory ec
-    ∙ chip-colour job memory ok j c d hj ef ed
-
--- that a fill drew
 pub fill-back : (job : Job) (memory : List ℕ) → JobOk (length memory) job → (j c d k : ℕ) (l′ : List ℕ) → j < job .height
-    → job .from ≡ Colour c → d ≡ low job (job .destination) j → k ≡ job .width * job .bytes → job .mix ≡ Store
+    → job .from ≡ Colour c → d ≡ low job (job .destination) j → k ≡ job .width * job .bytes
     → l′ ≡ straightLine (job .bytes) (λ s d. s) (λ i. c) (job .width) (take k (drop d memory))
-    → take d memory ++ (l′ ++ drop k (drop d memory)) ≡ chipLine (blitOf job) (towards (job .down)) j (job .width) memory
-unfolding rank
-fill-back job memory ok j c d k l′ hj ef ed ek em e =
+    → take d memory ++ (l′ ++ drop k (drop d memory)) ≡ chipLine (blitOf job (given (λ i n. c))) (towards (job .down)) j (job .width) memory
+fill-back job memory ok j c d k l′ hj ef ed ek e =
+    let plain = of-colour (length memory) job ok c ef in
     fill-put-back (job .bytes) (job .width) d k c memory l′ ek (to-room (length memory) job ok j d hj ed) e
-    ∙ ap (λ (x : Mix). pixels (job .bytes) (mixOf x (job .bytes)) (λ i. d + i * job .bytes) (λ m i. c) (job .width) memory) (sym em)
-    ∙ ap (λ (t : Bool). pixels (job .bytes) (mixOf (job .mix) (job .bytes)) (λ i. d + spot t (job .bytes) (job .width) i) (λ m i. c) (job .width) memory)
-    (sym (goes-up (length memory) job ok c ef))
-    ∙ chip-colour job memory ok j c d hj ef ed
+    ∙ ap (λ (x : Mix). pixels (job .bytes) (mixOf x (job .bytes)) (λ i. d + i * job .bytes) (λ m i. c) (job .width) memory) (sym (plain .1))
+    ∙ given-line job memory ok (λ i n. c) j d (λ m i. c) hj (plain .0) ed (λ x i h. refl)
+
+-- a line of a pattern's rows, tiled
+pub rows-line : (job : Job) (memory : List ℕ) → JobOk (length memory) job → (rows : List (List ℕ)) (x y j d : ℕ) (old source : List ℕ)
+    → j < job .height → job .down ≡ false → d ≡ low job (job .destination) j → max 16 (job .width) * job .bytes ≤ length old
+    → source ≡ straightLine (job .bytes) (λ s d. s) (λ i. getD (getD rows ((y + j) % 8) []) ((x + i) % 8) 0) (max 16 (job .width)) old
+    → pixels (job .bytes) (mixOf (job .mix) (job .bytes)) (λ i. d + i * job .bytes) (λ m i. getPixel (job .bytes) source (i * job .bytes)) (job .width) memory
+    ≡ chipLine (blitOf job (given (λ i k. rowsPixel (job .bytes) rows (x + i) (y + k)))) (towards (job .down)) j (job .width) memory
+unfolding rowsPixel
+rows-line job memory ok rows x y j d old source hj up ed room es =
+    given-line job memory ok (λ i k. rowsPixel (job .bytes) rows (x + i) (y + k)) j d (λ m i. getPixel (job .bytes) source (i * job .bytes)) hj up ed
+    (λ m i h.
+    ap (λ (s : List ℕ). getPixel (job .bytes) s (i * job .bytes)) es
+    ∙ stored-pixel (job .bytes) (λ n. getD (getD rows ((y + j) % 8) []) ((x + n) % 8) 0) old (max 16 (job .width)) i (omega arith) room)
 
 -- a line of a move
 pub move-back : (job : Job) (memory : List ℕ) → JobOk (length memory) job → (j a s d k lag : ℕ) (old source l′ : List ℕ) → j < job .height
@@ -208,7 +205,7 @@ pub move-back : (job : Job) (memory : List ℕ) → JobOk (length memory) job �
     → lag ≡ lagOf (job .down) (job .bytes) (job .width) s d → job .width * job .bytes ≤ length old
     → source ≡ copied memory s (job .width * job .bytes) old
     → l′ ≡ workLine (job .down) (job .bytes) (job .width) (job .mix) source lag (job .width) (take k (drop d memory))
-    → take d memory ++ (l′ ++ drop k (drop d memory)) ≡ chipLine (blitOf job) (towards (job .down)) j (job .width) memory
+    → take d memory ++ (l′ ++ drop k (drop d memory)) ≡ chipLine (blitOf job (inMemory a)) (towards (job .down)) j (job .width) memory
 move-back job memory ok j a s d k lag old source l′ hj ef es ed ek el room er e =
     let to = to-line (length memory) job ok j hj in
     let from = from-line (length memory) job ok a ef j hj in
@@ -225,28 +222,50 @@ move-back job memory ok j a s d k lag old source l′ hj ef es ed ek el room er 
     ∙ ap (λ (x : ℕ).
     pixels (job .bytes) (mixOf (job .mix) (job .bytes)) (λ i. x + spot (job .down) (job .bytes) (job .width) i)
     (λ m i. getPixel (job .bytes) m (s + spot (job .down) (job .bytes) (job .width) i)) (job .width) memory) ed
-    ∙ chip-line job j (length memory) (λ m i. getPixel (job .bytes) m (s + spot (job .down) (job .bytes) (job .width) i)) memory to
+    ∙ chip-line job (inMemory a) j (length memory) (λ m i. getPixel (job .bytes) m (s + spot (job .down) (job .bytes) (job .width) i)) memory to
     (λ x i h.
-    of-memory (job .from) a (job .bytes) (j * job .line + i * job .bytes) i j (s + spot (job .down) (job .bytes) (job .width) i) (towards (job .down)) x ef
-    (low-spot (job .down) (job .bytes) (job .line) (job .width) a (length memory) j i from h
-    ∙ ap (λ (y : ℕ). y + spot (job .down) (job .bytes) (job .width) i) (sym es)))
+    ap (getPixel (job .bytes) x)
+    (ap (λ (y : ℕ). y + spot (job .down) (job .bytes) (job .width) i) es
+    ∙ sym (low-spot (job .down) (job .bytes) (job .line) (job .width) a (length memory) j i from h)))
 
 -- ---- line after line
 
 pub job-in : (job : Job) (m n : ℕ) → n ≡ m → JobOk m job → JobOk n job
 job-in job m n e ok = subst (λ (x : ℕ). JobOk x job) (sym e) ok
 
-module _ (job : Job) where
-  pub lines-none : (m : List ℕ) → m ≡ chipLines (blitOf job) (towards (job .down)) 0 m
+module _ (job : Job) (source : Source) where
+  -- n lines of it
+  abbrev lines : ℕ → List ℕ → List ℕ
+  lines n old = chipLines (blitOf job source) (towards (job .down)) n old
+
+  pub lines-none : (m : List ℕ) → m ≡ lines 0 m
   unfolding chipLines
   lines-none m = refl
 
-  pub lines-more : (j : ℕ) (old m m′ : List ℕ) → m ≡ chipLines (blitOf job) (towards (job .down)) j old
-      → m′ ≡ chipLine (blitOf job) (towards (job .down)) j (job .width) m → m′ ≡ chipLines (blitOf job) (towards (job .down)) (suc j) old
+  pub lines-more : (j : ℕ) (old m m′ : List ℕ) → m ≡ lines j old → m′ ≡ chipLine (blitOf job source) (towards (job .down)) j (job .width) m
+      → m′ ≡ lines (suc j) old
   unfolding chipLines blitOf
-  lines-more j old m m′ e e′ = e′ ∙ ap (chipLine (blitOf job) (towards (job .down)) j (job .width)) e
+  lines-more j old m m′ e e′ = e′ ∙ ap (chipLine (blitOf job source) (towards (job .down)) j (job .width)) e
 
-  pub lines-end : (j : ℕ) (old m : List ℕ) → m ≡ chipLines (blitOf job) (towards (job .down)) j old → j ≡ job .height
-      → m ≡ performed job old
+  pub lines-end : (j : ℕ) (old m : List ℕ) → m ≡ lines j old → j ≡ job .height → m ≡ chipBlit (blitOf job source) (towards (job .down)) old
   unfolding chipBlit blitOf
-  lines-end j old m e h = e ∙ ap (λ (k : ℕ). chipLines (blitOf job) (towards (job .down)) k old) h
+  lines-end j old m e h = e ∙ ap (λ (k : ℕ). lines k old) h
+
+-- ---- the whole job
+
+-- from the rows that are read before its first pixel, a pattern fill
+pub rows-fill : (job : Job) (rows : List (List ℕ)) (a x y : ℕ) (old m : List ℕ) → ((k : ℕ) → getD old k 0 < 256) → rows ≡ patternRows (job .bytes) old a
+    → m ≡ chipBlit (blitOf job (given (λ i k. rowsPixel (job .bytes) rows (x % 8 + i) (y % 8 + k)))) (towards (job .down)) old
+    → m ≡ chipBlit (blitOf job (given (λ i k. patternPixel (job .bytes) old a (x + i) (y + k)))) (towards (job .down)) old
+rows-fill job rows a x y old m small er e =
+    e
+    ∙ ap (λ (f : ℕ → ℕ → ℕ). chipBlit (blitOf job (given f)) (towards (job .down)) old)
+    (fun-ext (λ i. fun-ext (λ k.
+    rows-from (job .bytes) rows x y i k
+    ∙ ap (λ (r : List (List ℕ)). rowsPixel (job .bytes) r (x + i) (y + k)) er
+    ∙ rows-pixel (job .bytes) old a (x + i) (y + k) small)))
+
+-- by where its source pixels come from
+pub performs : (job : Job) (from : From) (old m : List ℕ) → job .from ≡ from
+    → m ≡ chipBlit (blitOf job (sourceOf from (job .bytes) old)) (towards (job .down)) old → m ≡ performed job old
+performs job from old m ef e = e ∙ ap (λ (x : From). chipBlit (blitOf job (sourceOf x (job .bytes) old)) (towards (job .down)) old) (sym ef)

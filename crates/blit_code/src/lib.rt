@@ -1,12 +1,15 @@
-// The blit engine: fills, moves and host words over a lent memory, line by line.
+// The blit engine: fills, moves, pattern fills and host words over a lent memory, line by line.
 ghost use mathlib.Core.Path.{_≡_};
-ghost use Prim.Native.Nat.{_+_, _*_, _≤_, _<_};
-ghost use lib.ListN.{length, replicate};
+ghost use mathlib.Core.Bool.{false};
+ghost use mathlib.Core.List.{[]};
+ghost use Prim.Native.Nat.{_+_, _*_, _%_, _≤_, _<_, max};
+ghost use lib.ListN.{length, getD};
 ghost use Rattle.pixel.specs.Pixel.{getPixel};
-ghost use Rattle.blit.specs.Blit.{pixels, chipLine, towards};
-ghost use Rattle.blit.specs.Job.{mixOf, blitOf, performed, JobOk};
+ghost use Rattle.blit.specs.Blit.{given, memory as inMemory, pixels, chipLine, chipBlit, towards};
+ghost use Rattle.blit.specs.Job.{mixOf, patternPixel, blitOf, performed, JobOk};
 ghost use Rattle.blit.specs.Line.{straightLine, copied};
-ghost use Rattle.blit.specs.declared.From.the-variants.{Colour, Memory};
+ghost use Rattle.blit.specs.declared.From.the-variants.{Colour, Memory, Pattern};
+ghost use Rattle.blit_pattern.specs.Pattern.{rowsPixel};
 ghost use Rattle.blit_code.specs.Lines.{lagOf, lowEnd, AboveZero};
 use blit::From;
 use blit::Job;
@@ -40,46 +43,20 @@ fn low_end(down: bool, bytes: usize, line: usize, width: usize, at: u32, j: usiz
     at as usize + j * line
 }
 
-// A source line of one colour.
-fn colour_source(bytes: usize, width: usize, colour: u16) -> [u8; 2048]
-    requires { ⌜ (0 < bytes) × (bytes ≤ 2) × (width ≤ 1024) ⌝ }
-    ensures { λ r. ⌜ r ≡ straightLine bytes (λ s d. s) (λ i. colour) width (replicate 2048 0) ⌝ }
-{
-    let mut source = [0u8; 2048];
-    let size = width * bytes;
-    blit_line::fill_worker(&mut source[..size], bytes, width, colour);
-    source
-}
-
 // Line j of a blit of one colour.
 fn colour_line(job: Job, j: usize, colour: u16, memory: &mut [u8])
     requires { ⌜ JobOk (length (now memory)) job × (j < job .height) × (job .from ≡ Colour colour) ⌝ }
-    ensures { λ _. ⌜ now (memory .exit) ≡ chipLine (blitOf job) (towards (job .down)) j (job .width) (now (memory .entry)) ⌝ }
+    ensures { λ _. ⌜ now (memory .exit) ≡ chipLine (blitOf job (given (λ i k. colour))) (towards (job .down)) j (job .width) (now (memory .entry)) ⌝ }
 {
     let d = low_end(job.down, job.bytes, job.line, job.width, job.destination, j);
     let e = d + job.width * job.bytes;
-    let mix = job.mix;
-    match mix {
-        Mix::Store => blit_line::fill_worker(&mut memory[d..e], job.bytes, job.width, colour),
-        Mix::Raster(_) => {
-            let source = colour_source(job.bytes, job.width, colour);
-            blit_line::pixel_worker(
-                &mut memory[d..e],
-                job.down,
-                job.bytes,
-                job.width,
-                mix,
-                &source,
-                job.width,
-            );
-        }
-    }
+    blit_line::fill_worker(&mut memory[d..e], job.bytes, job.width, colour);
 }
 
 // Line j of a move from an address; source is room for its source line.
 fn move_line(job: Job, j: usize, from: u32, source: &mut [u8], memory: &mut [u8])
     requires { ⌜ JobOk (length (now memory)) job × (j < job .height) × (job .from ≡ Memory from) × (2048 ≤ length (now source)) ⌝ }
-    ensures { λ _. ⌜ now (memory .exit) ≡ chipLine (blitOf job) (towards (job .down)) j (job .width) (now (memory .entry)) ⌝ }
+    ensures { λ _. ⌜ now (memory .exit) ≡ chipLine (blitOf job (inMemory from)) (towards (job .down)) j (job .width) (now (memory .entry)) ⌝ }
     ensures { λ _. ⌜ now (source .exit) ≡ copied (now (memory .entry)) (lowEnd (job .down) (job .bytes) (job .line) (job .width) from j) (job .width * job .bytes) (now (source .entry)) ⌝ }
 {
     let s = low_end(job.down, job.bytes, job.line, job.width, from, j);
@@ -100,10 +77,40 @@ fn move_line(job: Job, j: usize, from: u32, source: &mut [u8], memory: &mut [u8]
     );
 }
 
+// Pixels of a source line, drawn from an address on.
+pub fn put_line(bytes: usize, mix: Mix, at: usize, count: usize, source: &[u8], memory: &mut [u8])
+    requires { ⌜ (0 < bytes) × (bytes ≤ 2) × (count ≤ 1024) × (count * bytes ≤ length (now source)) × (at + count * bytes ≤ length (now memory)) ⌝ }
+    ensures { λ _. ⌜ now (memory .exit) ≡ pixels bytes (mixOf mix bytes) (λ i. at + i * bytes) (λ m i. getPixel bytes (now (source .entry)) (i * bytes)) count (now (memory .entry)) ⌝ }
+{
+    let e = at + count * bytes;
+    blit_line::line_worker(&mut memory[at..e], false, bytes, count, mix, source, count);
+}
+
+// Line j of a pattern fill from its rows, column x and line y of them first; source is room for its source line.
+fn pattern_line(
+    job: Job,
+    j: usize,
+    rows: [[u16; 8]; 8],
+    x: usize,
+    y: usize,
+    source: &mut [u8],
+    memory: &mut [u8],
+)
+    requires { ⌜ JobOk (length (now memory)) job × (j < job .height) × (job .down ≡ false) × (x < 8) × (y < 8) × (2048 ≤ length (now source)) ⌝ }
+    ensures { λ _. ⌜ now (memory .exit) ≡ chipLine (blitOf job (given (λ i k. rowsPixel (job .bytes) rows (x + i) (y + k)))) (towards (job .down)) j (job .width) (now (memory .entry)) ⌝ }
+    ensures { λ _. ⌜ now (source .exit) ≡ straightLine (job .bytes) (λ s d. s) (λ i. getD (getD rows ((y + j) % 8) []) ((x + i) % 8) 0) (max 16 (job .width)) (now (source .entry)) ⌝ }
+{
+    let row = rows[(y + j) % 8];
+    blit_pattern::tile_line(row, job.bytes, x, job.width, source);
+    let at = low_end(job.down, job.bytes, job.line, job.width, job.destination, j);
+    let mix = job.mix;
+    put_line(job.bytes, mix, at, job.width, source, memory);
+}
+
 // All lines of a blit of one colour.
 fn colour_lines(job: Job, colour: u16, memory: &mut [u8])
     requires { ⌜ JobOk (length (now memory)) job × (job .from ≡ Colour colour) ⌝ }
-    ensures { λ _. ⌜ now (memory .exit) ≡ performed job (now (memory .entry)) ⌝ }
+    ensures { λ _. ⌜ now (memory .exit) ≡ chipBlit (blitOf job (given (λ i k. colour))) (towards (job .down)) (now (memory .entry)) ⌝ }
 {
     let mut j = 0;
     while j < job.height {
@@ -115,7 +122,7 @@ fn colour_lines(job: Job, colour: u16, memory: &mut [u8])
 // All lines of a move.
 fn move_lines(job: Job, from: u32, memory: &mut [u8])
     requires { ⌜ JobOk (length (now memory)) job × (job .from ≡ Memory from) ⌝ }
-    ensures { λ _. ⌜ now (memory .exit) ≡ performed job (now (memory .entry)) ⌝ }
+    ensures { λ _. ⌜ now (memory .exit) ≡ chipBlit (blitOf job (inMemory from)) (towards (job .down)) (now (memory .entry)) ⌝ }
 {
     let mut source = [0u8; 2048];
     let mut j = 0;
@@ -123,6 +130,28 @@ fn move_lines(job: Job, from: u32, memory: &mut [u8])
         move_line(job, j, from, &mut source, memory);
         j += 1;
     }
+}
+
+// All lines of a pattern fill from its rows.
+fn pattern_lines(job: Job, rows: [[u16; 8]; 8], x: usize, y: usize, memory: &mut [u8])
+    requires { ⌜ JobOk (length (now memory)) job × (job .down ≡ false) × (x < 8) × (y < 8) ⌝ }
+    ensures { λ _. ⌜ now (memory .exit) ≡ chipBlit (blitOf job (given (λ i k. rowsPixel (job .bytes) rows (x + i) (y + k)))) (towards (job .down)) (now (memory .entry)) ⌝ }
+{
+    let mut source = [0u8; 2048];
+    let mut j = 0;
+    while j < job.height {
+        pattern_line(job, j, rows, x, y, &mut source, memory);
+        j += 1;
+    }
+}
+
+// A pattern fill: the whole pattern is read before the first pixel is drawn.
+fn pattern_fill(job: Job, at: u32, x: u32, y: u32, memory: &mut [u8])
+    requires { ⌜ JobOk (length (now memory)) job × (job .from ≡ Pattern at x y) ⌝ }
+    ensures { λ _. ⌜ now (memory .exit) ≡ chipBlit (blitOf job (given (λ i k. patternPixel (job .bytes) (now (memory .entry)) at (x + i) (y + k)))) (towards (job .down)) (now (memory .entry)) ⌝ }
+{
+    let rows = blit_pattern::read_pattern(memory, job.bytes, at as usize);
+    pattern_lines(job, rows, (x % 8) as usize, (y % 8) as usize, memory);
 }
 
 // A blit over the lent memory.
@@ -134,14 +163,6 @@ pub fn perform(job: Job, memory: &mut [u8])
     match from {
         From::Colour(colour) => colour_lines(job, colour, memory),
         From::Memory(at) => move_lines(job, at, memory),
+        From::Pattern(at, x, y) => pattern_fill(job, at, x, y, memory),
     }
-}
-
-// Pixels of a source line, drawn from an address on.
-pub fn put_line(bytes: usize, mix: Mix, at: usize, count: usize, source: &[u8], memory: &mut [u8])
-    requires { ⌜ (0 < bytes) × (bytes ≤ 2) × (count ≤ 1024) × (count * bytes ≤ length (now source)) × (at + count * bytes ≤ length (now memory)) ⌝ }
-    ensures { λ _. ⌜ now (memory .exit) ≡ pixels bytes (mixOf mix bytes) (λ i. at + i * bytes) (λ m i. getPixel bytes (now (source .entry)) (i * bytes)) count (now (memory .entry)) ⌝ }
-{
-    let e = at + count * bytes;
-    blit_line::line_worker(&mut memory[at..e], false, bytes, count, mix, source, count);
 }

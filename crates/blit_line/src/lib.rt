@@ -1,10 +1,12 @@
 // One line of a blit: a source line copied, and a destination line, lent alone, drawn in the direction named.
 ghost use mathlib.Core.Path.{_≡_};
+ghost use mathlib.Core.Bool.{cond};
 ghost use Prim.Native.Nat.{_+_, _*_, _≤_, _<_};
+ghost use lib.Dec.{eqb};
 ghost use lib.ListN.{length};
 ghost use Rattle.pixel.specs.Pixel.{getPixel, putPixel};
 ghost use Rattle.blit.specs.Job.{mixOf};
-ghost use Rattle.blit.specs.declared.Mix.the-variants.{Raster};
+ghost use Rattle.blit.specs.declared.Mix.the-variants.{Raster, Key};
 ghost use Rattle.blit.specs.Line.{rank, lagged, workLine, copies, straightLine, copied, LineOk};
 use blit::Mix;
 
@@ -32,6 +34,13 @@ pub fn copy_bytes(from: &[u8], at: usize, size: usize, to: &mut [u8])
     }
 }
 
+// The source pixel, or the destination pixel where the source pixel is the key colour.
+fn keyed_pixel(key: u16, s: u16, d: u16) -> u16
+    ensures { λ r. ⌜ r ≡ cond (eqb s key) d s ⌝ }
+{
+    if s == key { d } else { s }
+}
+
 // What a source pixel and a destination pixel make.
 pub fn mixed_pixel(mix: Mix, bytes: usize, s: u16, d: u16) -> u16
     requires { ⌜ bytes ≤ 2 ⌝ }
@@ -40,6 +49,7 @@ pub fn mixed_pixel(mix: Mix, bytes: usize, s: u16, d: u16) -> u16
     match mix {
         Mix::Store => s,
         Mix::Raster(code) => pixel_code::combine((8 * bytes) as u32, code, s, d),
+        Mix::Key(key) => keyed_pixel(key, s, d),
     }
 }
 
@@ -50,6 +60,7 @@ fn is_copy(mix: Mix) -> bool
     match mix {
         Mix::Store => true,
         Mix::Raster(code) => code == 0xC,
+        Mix::Key(_) => false,
     }
 }
 
@@ -79,6 +90,34 @@ fn raster_bytes(line: &mut [u8], code: u8, source: &[u8])
     }
 }
 
+// The pixels of a line, each replaced by the source line's unless that is the key colour. No branch depends on a pixel.
+fn key_pixels(line: &mut [u8], bytes: usize, width: usize, key: u16, source: &[u8])
+    requires { ⌜ LineOk bytes width (now line) × (width * bytes ≤ length (now source)) ⌝ }
+    ensures { λ _. ⌜ now (line .exit) ≡ straightLine bytes (mixOf (Key key) bytes) (λ i. getPixel bytes (now (source .entry)) (i * bytes)) width (now (line .entry)) ⌝ }
+{
+    let mut i = 0;
+    while i < width {
+        let at = i * bytes;
+        let s = pixel_code::get_pixel(source, bytes, at);
+        let d = pixel_code::get_pixel(line, bytes, at);
+        let r = keyed_pixel(key, s, d);
+        pixel_code::put_pixel(line, bytes, at, r);
+        i += 1;
+    }
+}
+
+// The same, with the bytes of a pixel as a constant of the loop.
+fn key_worker(line: &mut [u8], bytes: usize, width: usize, key: u16, source: &[u8])
+    requires { ⌜ LineOk bytes width (now line) × (width * bytes ≤ length (now source)) ⌝ }
+    ensures { λ _. ⌜ now (line .exit) ≡ straightLine bytes (mixOf (Key key) bytes) (λ i. getPixel bytes (now (source .entry)) (i * bytes)) width (now (line .entry)) ⌝ }
+{
+    if bytes == 1 {
+        key_pixels(line, 1, width, key, source);
+    } else {
+        key_pixels(line, 2, width, key, source);
+    }
+}
+
 // Pixels of a source line and those of the line, mixed side by side. The mix is looked at once, not pixel by pixel.
 fn combine_pixels(line: &mut [u8], bytes: usize, width: usize, mix: Mix, source: &[u8])
     requires { ⌜ LineOk bytes width (now line) × (width * bytes ≤ length (now source)) ⌝ }
@@ -87,6 +126,7 @@ fn combine_pixels(line: &mut [u8], bytes: usize, width: usize, mix: Mix, source:
     match mix {
         Mix::Store => copy_bytes(source, 0, width * bytes, line),
         Mix::Raster(code) => raster_bytes(line, code, source),
+        Mix::Key(key) => key_worker(line, bytes, width, key, source),
     }
 }
 

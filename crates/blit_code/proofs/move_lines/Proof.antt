@@ -4,7 +4,7 @@ use native.Mathlib.Numerals.{add-one}
 use native.Mathlib.Omega.{arith}
 use borrow.Author.Needs.{needs}
 use lib.ListN.{length, length-replicate}
-use Rattle.blit.specs.Blit.{chipLines, towards}
+use Rattle.blit.specs.Blit.{chipLines, towards, Source, memory as inMemory}
 use Rattle.blit.specs.Job.{blitOf}
 use Rattle.blit.proofs.Direction.{length-line}
 use Rattle.blit_code.proofs.Lines.{job-in, lines-end, lines-more, lines-none}
@@ -13,14 +13,14 @@ use Rattle.blit_code.proofs.move_lines.Tie as tie
 
 abbrev Inv-loop : tie.InvT-loop
 Inv-loop job from memory₀ source₀ j₀ memory source j =
-    (j ≤ job .height) × (length memory ≡ length memory₀) × (memory ≡ chipLines (blitOf job) (towards (job .down)) j memory₀)
+    (j ≤ job .height) × (length memory ≡ length memory₀) × (memory ≡ chipLines (blitOf job (inMemory from)) (towards (job .down)) j memory₀)
     × (length source ≡ 2048)
 
 abbrev μ-loop : tie.MeasureT-loop
 μ-loop job from memory₀ source₀ j₀ memory source j = job .height - j
 
 loop-holds : tie.Need-loop-holds Inv-loop μ-loop
-loop-holds c = (omega arith, omega arith, lines-none (c .before .args .job) _, length-replicate {0} {A = ℕ} 2048 0)
+loop-holds c = (omega arith, omega arith, lines-none (c .before .args .job) _ _, length-replicate {0} {A = ℕ} 2048 0)
 
 slice-aggregate-move-line : tie.Need-slice-aggregate-move-line Inv-loop μ-loop
 slice-aggregate-move-line c = search needs
@@ -41,10 +41,12 @@ loop-again : tie.Need-loop-again Inv-loop μ-loop
 loop-again c =
     let drawn = c .before .before .before in
     let l = drawn .before .before .before .before .before .loop in
-    let b = drawn .before .before .before .before .before .before .before .args .job in (
+    let a = drawn .before .before .before .before .before .before .before .args in
+    let b = a .job in
+    let s : Source = inMemory (a .from) in (
       omega arith,
-      ap length (drawn .move-line .ensures .0) ∙ length-line (blitOf b) (towards (b .down)) _ _ _ ∙ l .inv .1,
-      rw add-one (lines-more b (l .j) _ (l .memory) _ (l .inv .2) (drawn .move-line .ensures .0)),
+      ap length (drawn .move-line .ensures .0) ∙ length-line (blitOf b s) (towards (b .down)) _ _ _ ∙ l .inv .1,
+      rw add-one (lines-more b s (l .j) _ (l .memory) _ (l .inv .2) (drawn .move-line .ensures .0)),
       search needs,
     )
 
@@ -52,7 +54,7 @@ same-length : tie.Need-same-length Inv-loop μ-loop
 same-length c = search needs
 
 returns : tie.Need-returns Inv-loop μ-loop
-returns c = lines-end (c .before .before .before .before .args .job) _ _ _ (c .before .before .loop .inv .2) (omega arith)
+returns c = lines-end (c .before .before .before .before .args .job) _ _ _ _ (c .before .before .loop .inv .2) (omega arith)
 
 pub move-lines-spec : {M : Type 1} → statement M
 move-lines-spec =

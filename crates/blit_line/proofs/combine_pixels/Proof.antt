@@ -31,6 +31,12 @@ enum-known-mix c = search needs
 raster-bytes-requires : tie.Need-raster-bytes-requires
 raster-bytes-requires c κs = search needs
 
+enum-known-mix-2 : tie.Need-enum-known-mix-2
+enum-known-mix-2 c = search needs
+
+key-worker-requires : tie.Need-key-worker-requires
+key-worker-requires c κs = search needs
+
 same-length : tie.Need-same-length
 same-length c = search needs
 
@@ -59,6 +65,16 @@ returns-2 c =
     (λ k. (known .before .slice-known .given k) .fits) (a .bytes) (a .width))
     ∙ ap (mixedLine (a .bytes) (a .width) (a .source .now) (a .line .now)) (sym (told .mix .given .1))
 
+same-length-3 : tie.Need-same-length-3
+same-length-3 c = search needs
+
+returns-3 : tie.Need-returns-3
+returns-3 c =
+    let drawn = c .before .before in
+    let told = drawn .before .before .before in
+    let a = told .before .before .before .before .args in
+    drawn .key-worker .ensures ∙ ap (mixedLine (a .bytes) (a .width) (a .source .now) (a .line .now)) (sym (told .mix2 .given .1))
+
 pub combine-pixels-spec : {M : Type 1} → statement M
 combine-pixels-spec =
     tie.close
@@ -68,7 +84,11 @@ combine-pixels-spec =
     copy-bytes-requires
     enum-known-mix
     raster-bytes-requires
+    enum-known-mix-2
+    key-worker-requires
     same-length
     returns
     same-length-2
-    returns-2)
+    returns-2
+    same-length-3
+    returns-3)
