@@ -11,11 +11,11 @@ use Rattle.pixel.specs.Pixel.{getPixel, putPixel}
 use Rattle.pixel.specs.Raster.{bitwise}
 use Rattle.blit.specs.Blit.{pixels, chipLine, chipLines, chipBlit}
 use Rattle.blit.specs.Job.{blitOf}
-use Rattle.blit.specs.declared.Mix.the-variants.{Store, Raster}
-use Rattle.blit.specs.declared.From.the-variants.{Colour, Memory}
+use Rattle.blit.specs.declared.Mix.the-variants.{Store, Raster, Key}
+use Rattle.blit.specs.declared.From.the-variants.{Colour, Memory, Pattern}
 use Rattle.blit.specs.Words.{wordPixel, chipWord}
 use Rattle.chip.specs.Register.{listed, fits, screenAfter, blitAfter}
-use Rattle.chip.specs.Start.{operation, rasterCode, bytesOf, sourceOf, destinationOf, lineOf, widthOf, heightOf, foregroundOf, sourceFits, startable, span, within, mixBy, fromBy, jobOf, writeOf, started}
+use Rattle.chip.specs.Start.{operation, rasterCode, bytesOf, sourceOf, destinationOf, lineOf, widthOf, heightOf, foregroundOf, keyOf, patternBase, patternLine, patternColumn, sourceFits, startable, span, within, mixBy, fromBy, jobOf, writeOf, started}
 use Rattle.chip.specs.Admit.{admitRows, refusal, dueAfter, dueOf, chipAfter, effect}
 use Rattle.chip.specs.Play.{newChip, run, applied, ending, playing, played, playingOf, answerOf}
 use Rattle.chip.specs.declared.Registers.{Registers}
@@ -163,16 +163,47 @@ keeps = refl
 abbrev full : Registers
 full = record { control = 0x40001; command = 0xF000F; source = 0x3FFFF; destination = 0x3FFFE; offset = 0x7FF; width = 0x3FF; height = 0x3FE; background = 0xFFFF; foreground = 0xFFFF }
 
-pub reads : operation full ∷ rasterCode full ∷ bytesOf full ∷ sourceOf full ∷ destinationOf full ∷ lineOf full ∷ widthOf full ∷ heightOf full ∷ foregroundOf full ∷ []
-    ≡ 15 ∷ 15 ∷ 2 ∷ 0x3FFFF ∷ 0x3FFFE ∷ 0xFFE ∷ 1024 ∷ 1023 ∷ 0xFFFF ∷ []
+pub reads : operation full ∷ rasterCode full ∷ bytesOf full ∷ sourceOf full ∷ destinationOf full ∷ lineOf full ∷ widthOf full ∷ heightOf full ∷ foregroundOf full ∷ keyOf full ∷ []
+    ≡ 15 ∷ 15 ∷ 2 ∷ 0x3FFFF ∷ 0x3FFFE ∷ 0xFFE ∷ 1024 ∷ 1023 ∷ 0xFFFF ∷ 0xFFFF ∷ []
 reads = refl
 
--- ---- starts, in a memory of eight bytes
+-- a key colour has the bits of a pixel; control 0 is depth 8, 40000h depth 16
+abbrev keyed-by : ℕ → ℕ → Registers
+keyed-by control key = record { control = control; command = 7; source = 0; destination = 0; offset = 0; width = 0; height = 0; background = key; foreground = 0 }
 
--- the refusal of a start with these registers: operation and raster code, source, destination, width and height less one; lines four bytes apart
-abbrev started-by : ℕ → ℕ → ℕ → ℕ → ℕ → ℕ → ℕ
-started-by command source destination width height control =
-    refusal 8
+pub keys : keyOf (keyed-by 0 0x12) ∷ keyOf (keyed-by 0 0xFF12) ∷ keyOf (keyed-by 0x40000 0x12) ∷ keyOf (keyed-by 0x40000 0xFF12) ∷ []
+    ≡ 0x12 ∷ 0x12 ∷ 0x12 ∷ 0xFF12 ∷ []
+keys = refl
+
+-- 002 table 9-4, the pattern's base, line and pixel, bit by bit. Values with all three: 3C023h of 002's examples 16 and 17, and one at depth 16.
+abbrev pattern-in : ℕ → ℕ → List ℕ
+pattern-in control source =
+    let b : Registers = record { control = control; command = 6; source = source; destination = 0; offset = 0; width = 0; height = 0; background = 0; foreground = 0 } in
+    patternBase b ∷ patternLine b ∷ patternColumn b ∷ []
+
+pub pattern-bits-8 : map (pattern-in 0) (1 ∷ 2 ∷ 4 ∷ 8 ∷ 0x10 ∷ 0x20 ∷ 0x40 ∷ 0x80 ∷ 0x3FFC0 ∷ 0x3C023 ∷ [])
+    ≡ (0 ∷ 0 ∷ 1 ∷ []) ∷ (0 ∷ 0 ∷ 2 ∷ []) ∷ (0 ∷ 0 ∷ 4 ∷ [])
+    ∷ (0 ∷ 1 ∷ 0 ∷ []) ∷ (0 ∷ 2 ∷ 0 ∷ []) ∷ (0 ∷ 4 ∷ 0 ∷ [])
+    ∷ (0x40 ∷ 0 ∷ 0 ∷ []) ∷ (0x80 ∷ 0 ∷ 0 ∷ []) ∷ (0x3FFC0 ∷ 0 ∷ 0 ∷ [])
+    ∷ (0x3C000 ∷ 4 ∷ 3 ∷ [])
+    ∷ []
+pattern-bits-8 = refl
+
+pub pattern-bits-16 : map (pattern-in 0x40000) (1 ∷ 2 ∷ 4 ∷ 8 ∷ 0x10 ∷ 0x20 ∷ 0x40 ∷ 0x80 ∷ 0x100 ∷ 0x3FF80 ∷ 0x2A0D6 ∷ [])
+    ≡ (0 ∷ 0 ∷ 0 ∷ []) ∷ (0 ∷ 0 ∷ 1 ∷ []) ∷ (0 ∷ 0 ∷ 2 ∷ []) ∷ (0 ∷ 0 ∷ 4 ∷ [])
+    ∷ (0 ∷ 1 ∷ 0 ∷ []) ∷ (0 ∷ 2 ∷ 0 ∷ []) ∷ (0 ∷ 4 ∷ 0 ∷ [])
+    ∷ (0x80 ∷ 0 ∷ 0 ∷ []) ∷ (0x100 ∷ 0 ∷ 0 ∷ []) ∷ (0x3FF80 ∷ 0 ∷ 0 ∷ [])
+    ∷ (0x2A080 ∷ 5 ∷ 3 ∷ [])
+    ∷ []
+pattern-bits-16 = refl
+
+-- ---- starts
+
+-- the refusal of a start with these registers in a memory of m bytes: operation and raster code, source, destination, width and height less
+-- one; lines four bytes apart
+abbrev started-in : ℕ → ℕ → ℕ → ℕ → ℕ → ℕ → ℕ → ℕ
+started-in m command source destination width height control =
+    refusal m
     (record {
       screen = newChip .screen;
       blit = record { control = 0; command = command; source = source; destination = destination; offset = 2; width = width; height = height; background = 0; foreground = 0 };
@@ -180,7 +211,11 @@ started-by command source destination width height control =
     })
     (recordWith 0x8000 control)
 
--- 21: operations other than 0, 2, 3 and Ch; a write with a source start; odd addresses that are used at depth 16
+-- in a memory of eight bytes
+abbrev started-by : ℕ → ℕ → ℕ → ℕ → ℕ → ℕ → ℕ
+started-by command source destination width height control = started-in 8 command source destination width height control
+
+-- 21: operations other than the model's; a write with a source start; odd addresses that are used at depth 16
 pub starts-known : started-by 0 0 0 0 0 1 ∷ started-by 2 0 0 0 0 1 ∷ started-by 3 0 0 0 0 1 ∷ started-by 0xC 0 0 0 0 1
     ∷ started-by 1 0 0 0 0 1 ∷ started-by 4 0 0 0 0 1 ∷ started-by 0xD 0 0 0 0 1
     ∷ started-by 0 1 0 0 0 1 ∷ started-by 0 2 0 0 0 1 ∷ started-by 0xC 1 0 0 0 1
@@ -195,6 +230,25 @@ pub starts-known : started-by 0 0 0 0 0 1 ∷ started-by 2 0 0 0 0 1 ∷ started
     ∷ []
 unfolding firstOf listed fits screenAfter blitAfter sourceFits startable span within admitRows refusal dueAfter dueOf chipAfter newChip
 starts-known = refl
+
+-- in a memory of 128 bytes: 5, 6 and 7 are known, and the other numbers are not; an odd source is one of whole pixels at depth 8 alone, and an
+-- odd destination too
+pub patterns-known : map (λ n. started-in 128 n 0 0 0 0 1) (5 ∷ 6 ∷ 7 ∷ 1 ∷ 4 ∷ 8 ∷ 9 ∷ 0xA ∷ 0xB ∷ 0xD ∷ 0xE ∷ 0xF ∷ [])
+    ∷ map (λ n. started-in 128 n 1 0 0 0 1) (5 ∷ 6 ∷ 7 ∷ [])
+    ∷ map (λ n. started-in 128 n 1 0 0 0 0x40001) (5 ∷ 6 ∷ 7 ∷ [])
+    ∷ map (λ n. started-in 128 n 0 1 0 0 1) (5 ∷ 6 ∷ 7 ∷ [])
+    ∷ map (λ n. started-in 128 n 0 1 0 0 0x40001) (5 ∷ 6 ∷ 7 ∷ [])
+    ∷ map (λ n. started-in 128 n 2 2 0 0 0x40001) (5 ∷ 6 ∷ 7 ∷ [])
+    ∷ []
+    ≡ (0 ∷ 0 ∷ 0 ∷ 21 ∷ 21 ∷ 21 ∷ 21 ∷ 21 ∷ 21 ∷ 21 ∷ 21 ∷ 21 ∷ [])
+    ∷ (0 ∷ 0 ∷ 0 ∷ [])
+    ∷ (21 ∷ 21 ∷ 21 ∷ [])
+    ∷ (0 ∷ 0 ∷ 0 ∷ [])
+    ∷ (21 ∷ 21 ∷ 21 ∷ [])
+    ∷ (0 ∷ 0 ∷ 0 ∷ [])
+    ∷ []
+unfolding firstOf listed fits screenAfter blitAfter sourceFits startable span within admitRows refusal dueAfter dueOf chipAfter newChip
+patterns-known = refl
 
 -- 22: a byte past the memory, or below it in negative direction: of the destination under each operation, and of a move's source alone. Two
 -- lines of three pixels reach six bytes on, of wide pixels eight.
@@ -212,6 +266,31 @@ pub starts-inside : started-by 0xC 0 1 2 1 1 ∷ started-by 0xC 0 2 2 1 1
     ∷ []
 unfolding firstOf listed fits screenAfter blitAfter sourceFits startable span within admitRows refusal dueAfter dueOf chipAfter newChip
 starts-inside = refl
+
+-- two lines of three pixels at each end of a memory of 64 or 128 bytes: the destination under 5, 6 and 7, the source under 5, and the pattern,
+-- which is whole wherever its first pixel stands
+pub patterns-inside : map (λ n. started-in 64 n 0 57 2 1 1) (5 ∷ 6 ∷ 7 ∷ [])
+    ∷ map (λ n. started-in 64 n 0 58 2 1 1) (5 ∷ 6 ∷ 7 ∷ [])
+    ∷ map (λ n. started-in 64 n 58 0 2 1 1) (5 ∷ 6 ∷ 7 ∷ [])
+    ∷ map (λ n. started-in 127 n 64 0 2 1 1) (5 ∷ 6 ∷ 7 ∷ [])
+    ∷ map (λ n. started-in 128 n 127 0 0 0 1) (5 ∷ 6 ∷ 7 ∷ [])
+    ∷ map (λ n. started-in 128 n 126 0 0 0 0x40001) (5 ∷ 6 ∷ 7 ∷ [])
+    ∷ map (λ n. started-in 127 n 0 0 0 0 0x40001) (5 ∷ 6 ∷ 7 ∷ [])
+    ∷ map (λ n. started-in 128 n 0 120 1 1 0x40001) (5 ∷ 6 ∷ 7 ∷ [])
+    ∷ map (λ n. started-in 128 n 0 122 1 1 0x40001) (5 ∷ 6 ∷ 7 ∷ [])
+    ∷ []
+    ≡ (0 ∷ 0 ∷ 0 ∷ [])
+    ∷ (22 ∷ 22 ∷ 22 ∷ [])
+    ∷ (22 ∷ 0 ∷ 0 ∷ [])
+    ∷ (0 ∷ 22 ∷ 22 ∷ [])
+    ∷ (0 ∷ 0 ∷ 0 ∷ [])
+    ∷ (0 ∷ 0 ∷ 0 ∷ [])
+    ∷ (0 ∷ 22 ∷ 22 ∷ [])
+    ∷ (0 ∷ 0 ∷ 0 ∷ [])
+    ∷ (22 ∷ 22 ∷ 22 ∷ [])
+    ∷ []
+unfolding firstOf listed fits screenAfter blitAfter sourceFits startable span within admitRows refusal dueAfter dueOf chipAfter newChip
+patterns-inside = refl
 
 -- ---- two rows that fail at once
 
@@ -291,18 +370,19 @@ pub wide-written : (playing 8 (streamBytes wide-write) line8 .number ≡ 0) × (
 unfolding firstOf recordBytes streamBytes recordAt recordsFrom recordsOf getPixel putPixel bitwise pixels wordPixel chipWord listed fits screenAfter blitAfter sourceFits startable span within mixBy writeOf started admitRows refusal dueAfter dueOf chipAfter effect newChip run applied ending playing played
 wide-written = (refl, refl)
 
--- ---- the table of operations, cell by cell: write, up, down, fill, and one that the model has not
+-- ---- the table of operations, cell by cell: write, up, down, transparent move, pattern, pattern with key, fill, and one that the model has not
 abbrev with-command : ℕ → Registers
-with-command v = record { control = 0; command = v; source = 5; destination = 9; offset = 4; width = 0; height = 0; background = 0; foreground = 7 }
+with-command v = record { control = 0; command = v; source = 5; destination = 9; offset = 4; width = 0; height = 0; background = 0x103; foreground = 7 }
 
 abbrev operations : List ℕ
-operations = 0x60000 ∷ 0x60002 ∷ 0x60003 ∷ 0x6000C ∷ 0x60001 ∷ []
+operations = 0x60000 ∷ 0x60002 ∷ 0x60003 ∷ 0x60005 ∷ 0x60006 ∷ 0x60007 ∷ 0x6000C ∷ 0x60001 ∷ []
 
-pub cells : (map (λ v. mixBy (with-command v)) operations ≡ Raster 6 ∷ Raster 6 ∷ Raster 6 ∷ Store ∷ Store ∷ [])
-    × (map (λ v. fromBy (with-command v)) operations ≡ Colour 0 ∷ Memory 5 ∷ Memory 5 ∷ Colour 7 ∷ Colour 0 ∷ [])
-    × (map (λ v. within 9 (with-command v)) operations ≡ false ∷ false ∷ false ∷ false ∷ true ∷ [])
-    × (map (λ v. within 10 (with-command v)) operations ≡ true ∷ true ∷ true ∷ true ∷ true ∷ [])
-    × (map (λ v. sourceFits (with-command v)) operations ≡ false ∷ true ∷ true ∷ true ∷ false ∷ [])
+pub cells : (map (λ v. mixBy (with-command v)) operations ≡ Raster 6 ∷ Raster 6 ∷ Raster 6 ∷ Key 3 ∷ Raster 6 ∷ Key 3 ∷ Store ∷ Store ∷ [])
+    × (map (λ v. fromBy (with-command v)) operations ≡ Colour 0 ∷ Memory 5 ∷ Memory 5 ∷ Memory 5 ∷ Pattern 0 5 0 ∷ Pattern 0 5 0 ∷ Colour 7 ∷ Colour 0 ∷ [])
+    × (map (λ v. within 9 (with-command v)) operations ≡ false ∷ false ∷ false ∷ false ∷ false ∷ false ∷ false ∷ true ∷ [])
+    × (map (λ v. within 10 (with-command v)) operations ≡ true ∷ true ∷ true ∷ true ∷ false ∷ false ∷ true ∷ true ∷ [])
+    × (map (λ v. within 64 (with-command v)) operations ≡ true ∷ true ∷ true ∷ true ∷ true ∷ true ∷ true ∷ true ∷ [])
+    × (map (λ v. sourceFits (with-command v)) operations ≡ false ∷ true ∷ true ∷ true ∷ true ∷ true ∷ true ∷ false ∷ [])
     × (started (with-command 0x60001) line8 ≡ line8)
 unfolding mixBy fromBy span within sourceFits started
-cells = (refl, refl, refl, refl, refl, refl)
+cells = (refl, refl, refl, refl, refl, refl, refl)

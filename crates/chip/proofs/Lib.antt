@@ -8,6 +8,7 @@ pub mod Plays
 pub mod Commands
 pub mod Cases
 pub mod WordCases
+pub mod PatternCases
 pub mod Starts
 pub mod Lengths
 pub mod Screens

@@ -5,7 +5,7 @@ ghost use Prim.Native.Nat.{_+_, _-_, _/_, _≤_};
 ghost use lib.ListN.{length};
 ghost use Rattle.record.specs.Record.{recordsFrom, recordsOf};
 ghost use Rattle.chip.specs.Register.{listed, fits, screenAfter, blitAfter};
-ghost use Rattle.chip.specs.Start.{byBlit, sourceFits, startable, span, forward, backward, within};
+ghost use Rattle.chip.specs.Start.{byBlit, wholeAt, sourceFits, startable, span, forward, backward, patternWithin, within};
 ghost use Rattle.chip.specs.Admit.{isData, starts, refusal, dueOf, chipAfter};
 ghost use Rattle.chip.specs.Play.{newChip, run};
 ghost use Rattle.chip.specs.Words.{isWord, wordsAhead, wordsTaken};
@@ -99,27 +99,53 @@ fn span_of(b: Registers) -> u64
 }
 
 // A flag for each operation of the model, and one for any other number.
-fn by_blit(operation: u32, write: bool, up: bool, down: bool, fill: bool, other: bool) -> bool
-    ensures { λ r. ⌜ r ≡ byBlit operation write up down fill other ⌝ }
+fn by_blit(
+    operation: u32,
+    write: bool,
+    up: bool,
+    down: bool,
+    transparent: bool,
+    pattern: bool,
+    keyed: bool,
+    fill: bool,
+    other: bool,
+) -> bool
+    ensures { λ r. ⌜ r ≡ byBlit operation write up down transparent pattern keyed fill other ⌝ }
 {
     match operation {
         0 => write,
         2 => up,
         3 => down,
+        5 => transparent,
+        6 => pattern,
+        7 => keyed,
         0xC => fill,
         _ => other,
     }
+}
+
+// Whether an address is one of whole pixels: even at depth 16.
+fn is_whole(b: Registers, address: u32) -> bool
+    ensures { λ r. ⌜ r ≡ wholeAt b address ⌝ }
+{
+    if chip_due::bytes_of(b) == 1 {
+        return true;
+    }
+    address % 2 == 0
 }
 
 // What is asked of the source address.
 fn source_fits(b: Registers) -> bool
     ensures { λ r. ⌜ r ≡ sourceFits b ⌝ }
 {
-    let source = chip_due::source_of(b) as u64;
-    let whole = source % chip_due::bytes_of(b) == 0;
+    let source = chip_due::source_of(b);
+    let whole = is_whole(b, source);
     by_blit(
         chip_due::operation_of(b),
         source == 0,
+        whole,
+        whole,
+        whole,
         whole,
         whole,
         true,
@@ -132,8 +158,7 @@ fn is_startable(b: Registers) -> bool
     ensures { λ r. ⌜ r ≡ startable b ⌝ }
 {
     let fits = source_fits(b);
-    let destination = chip_due::destination_of(b) as u64;
-    fits & (destination % chip_due::bytes_of(b) == 0)
+    fits & is_whole(b, chip_due::destination_of(b))
 }
 
 // Whether all bytes from an address on lie in the memory.
@@ -152,6 +177,13 @@ fn fits_backward(memory: u64, b: Registers, address: u32) -> bool
     low & high
 }
 
+// Whether all bytes of the pattern lie in the memory.
+fn fits_pattern(memory: u64, b: Registers) -> bool
+    ensures { λ r. ⌜ r ≡ patternWithin memory b ⌝ }
+{
+    chip_due::pattern_base(b) as u64 + 64 * chip_due::bytes_of(b) <= memory
+}
+
 // Refusal 22: whether every byte that the blit touches lies in the memory.
 fn is_within(memory: u64, b: Registers) -> bool
     ensures { λ r. ⌜ r ≡ within memory b ⌝ }
@@ -161,7 +193,18 @@ fn is_within(memory: u64, b: Registers) -> bool
     let up = fits_forward(memory, b, destination);
     let both = up & fits_forward(memory, b, source);
     let down = fits_backward(memory, b, destination) & fits_backward(memory, b, source);
-    by_blit(chip_due::operation_of(b), up, both, down, up, true)
+    let pattern = up & fits_pattern(memory, b);
+    by_blit(
+        chip_due::operation_of(b),
+        up,
+        both,
+        down,
+        both,
+        pattern,
+        pattern,
+        up,
+        true,
+    )
 }
 
 // 8000h with bit 0 set.

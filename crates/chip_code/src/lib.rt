@@ -5,7 +5,8 @@ ghost use Prim.Native.Nat.{_/_, _≤_};
 ghost use lib.ListN.{length};
 ghost use Rattle.record.specs.Record.{recordsFrom};
 ghost use Rattle.screen.specs.Screen.{memorySize};
-ghost use Rattle.chip.specs.Start.{startable, within, mixBy, fromBy, jobOf, started};
+ghost use Rattle.blit.specs.declared.From.the-variants.{Pattern};
+ghost use Rattle.chip.specs.Start.{patternBase, patternLine, patternColumn, startable, within, mixBy, fromBy, jobOf, started};
 ghost use Rattle.chip.specs.Admit.{isData, refusal, effect};
 ghost use Rattle.chip.specs.Play.{run, applied, playing, played, playingOf, answerOf};
 use blit::From;
@@ -30,11 +31,24 @@ fn mix_by(b: Registers) -> Mix
         0 => Mix::Raster(code),
         2 => Mix::Raster(code),
         3 => Mix::Raster(code),
+        6 => Mix::Raster(code),
+        5 | 7 => Mix::Key(chip_due::key_of(b)),
         _ => Mix::Store,
     }
 }
 
-// Where the source pixels of a move or a fill are.
+// The pattern that the registers name, and its first pixel.
+fn pattern_of(b: Registers) -> From
+    ensures { λ r. ⌜ r ≡ Pattern (patternBase b) (patternColumn b) (patternLine b) ⌝ }
+{
+    From::Pattern(
+        chip_due::pattern_base(b),
+        chip_due::pattern_column(b),
+        chip_due::pattern_line(b),
+    )
+}
+
+// Where the source pixels of a move, a pattern fill or a fill are.
 fn from_by(b: Registers) -> From
     ensures { λ r. ⌜ r ≡ fromBy b ⌝ }
 {
@@ -44,6 +58,9 @@ fn from_by(b: Registers) -> From
     match operation {
         2 => From::Memory(source),
         3 => From::Memory(source),
+        5 => From::Memory(source),
+        6 => pattern_of(b),
+        7 => pattern_of(b),
         0xC => From::Colour(colour),
         _ => From::Colour(0),
     }

@@ -2,7 +2,7 @@
 ghost use mathlib.Core.Path.{_≡_};
 ghost use mathlib.Core.Bool.{true};
 ghost use Prim.Native.Nat.{_≤_, _<_};
-ghost use Rattle.chip.specs.Start.{operation, rasterCode, bytesOf, sourceOf, destinationOf, lineOf, widthOf, heightOf, foregroundOf};
+ghost use Rattle.chip.specs.Start.{operation, rasterCode, bytesOf, sourceOf, destinationOf, lineOf, widthOf, heightOf, foregroundOf, keyOf, patternBase, patternLine, patternColumn};
 ghost use Rattle.chip.specs.Admit.{dueAfter};
 ghost use Rattle.chip.specs.Words.{lineWords, dueInLine, dueInAll, dueAfterWords, chipAfterWords};
 use chip::Chip;
@@ -64,6 +64,47 @@ pub fn foreground_of(b: Registers) -> u16
     ensures { λ r. ⌜ r ≡ foregroundOf b ⌝ }
 {
     (b.foreground % 65536) as u16
+}
+
+// The key colour, of as many bits as a pixel has.
+pub fn key_of(b: Registers) -> u16
+    ensures { λ r. ⌜ r ≡ keyOf b ⌝ }
+{
+    if bytes_of(b) == 1 {
+        return (b.background % 256) as u16;
+    }
+    (b.background % 65536) as u16
+}
+
+// Where a pattern of 64 pixels begins, and the line and column of its first pixel.
+pub fn pattern_base(b: Registers) -> u32
+    ensures { λ r. ⌜ r ≡ patternBase b ⌝ }
+{
+    let source = source_of(b);
+    if bytes_of(b) == 1 {
+        return source / 64 * 64;
+    }
+    source / 128 * 128
+}
+
+pub fn pattern_line(b: Registers) -> u32
+    ensures { λ r. ⌜ r ≡ patternLine b ⌝ }
+{
+    let source = source_of(b);
+    if bytes_of(b) == 1 {
+        return source / 8 % 8;
+    }
+    source / 16 % 8
+}
+
+pub fn pattern_column(b: Registers) -> u32
+    ensures { λ r. ⌜ r ≡ patternColumn b ⌝ }
+{
+    let source = source_of(b);
+    if bytes_of(b) == 1 {
+        return source % 8;
+    }
+    source / 2 % 8
 }
 
 // Data words of a line.

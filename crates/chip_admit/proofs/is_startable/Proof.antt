@@ -9,26 +9,13 @@ source-fits-requires c κs = search needs
 destination-of-requires : tie.Need-destination-of-requires
 destination-of-requires c κs = search needs
 
-cast-destination : tie.Need-cast-destination
-cast-destination c = search needs
-
-bytes-of-requires : tie.Need-bytes-of-requires
-bytes-of-requires c κs = search needs
-
-rem-result : tie.Need-rem-result
-rem-result c = search needs
+is-whole-requires : tie.Need-is-whole-requires
+is-whole-requires c κs = search needs
 
 returns : tie.Need-returns
 unfolding startable
-returns c = simp (c .bytes-of .ensures, c .before .destination-of .ensures, c .before .before .source-fits .ensures)
+returns c = simp (c .is-whole .ensures, c .before .destination-of .ensures, c .before .before .source-fits .ensures)
 
 pub is-startable-spec : {M : Type 1} → statement M
 is-startable-spec =
-    tie.close
-    (tie.spec
-    source-fits-requires
-    destination-of-requires
-    cast-destination
-    bytes-of-requires
-    rem-result
-    returns)
+    tie.close (tie.spec source-fits-requires destination-of-requires is-whole-requires returns)

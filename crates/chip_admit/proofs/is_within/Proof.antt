@@ -21,6 +21,9 @@ fits-backward-requires c κs = search needs
 fits-backward-requires-2 : tie.Need-fits-backward-requires-2
 fits-backward-requires-2 c κs = search needs
 
+fits-pattern-requires : tie.Need-fits-pattern-requires
+fits-pattern-requires c κs = search needs
+
 operation-of-requires : tie.Need-operation-of-requires
 operation-of-requires c κs = search needs
 
@@ -30,10 +33,11 @@ by-blit-requires c κs = search needs
 returns : tie.Need-returns
 unfolding within
 returns c =
-    let down = c .before .before in
+    let pattern = c .before .before in
+    let down = pattern .before in
     let up = down .before .before in
     let asked = up .before .before in
-    simp (c .by-blit .ensures, c .before .operation-of .ensures, down .fits-backward2 .ensures, down .before .fits-backward .ensures, up .fits-forward2 .ensures, up .before .fits-forward .ensures, asked .destination-of .ensures, asked .before .source-of .ensures)
+    simp (c .by-blit .ensures, c .before .operation-of .ensures, pattern .fits-pattern .ensures, down .fits-backward2 .ensures, down .before .fits-backward .ensures, up .fits-forward2 .ensures, up .before .fits-forward .ensures, asked .destination-of .ensures, asked .before .source-of .ensures)
 
 pub is-within-spec : {M : Type 1} → statement M
 is-within-spec =
@@ -45,6 +49,7 @@ is-within-spec =
     fits-forward-requires-2
     fits-backward-requires
     fits-backward-requires-2
+    fits-pattern-requires
     operation-of-requires
     by-blit-requires
     returns)

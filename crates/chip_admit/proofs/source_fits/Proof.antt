@@ -6,14 +6,8 @@ use Rattle.chip_admit.proofs.source_fits.Tie as tie
 source-of-requires : tie.Need-source-of-requires
 source-of-requires c κs = search needs
 
-cast-source : tie.Need-cast-source
-cast-source c = search needs
-
-bytes-of-requires : tie.Need-bytes-of-requires
-bytes-of-requires c κs = search needs
-
-rem-whole : tie.Need-rem-whole
-rem-whole c = search needs
+is-whole-requires : tie.Need-is-whole-requires
+is-whole-requires c κs = search needs
 
 operation-of-requires : tie.Need-operation-of-requires
 operation-of-requires c κs = search needs
@@ -23,16 +17,14 @@ by-blit-requires c κs = search needs
 
 returns : tie.Need-returns
 unfolding sourceFits
-returns c = simp (c .by-blit .ensures, c .before .operation-of .ensures, c .before .before .bytes-of .ensures, c .before .before .before .source-of .ensures)
+returns c = simp (c .by-blit .ensures, c .before .operation-of .ensures, c .before .before .is-whole .ensures, c .before .before .before .source-of .ensures)
 
 pub source-fits-spec : {M : Type 1} → statement M
 source-fits-spec =
     tie.close
     (tie.spec
     source-of-requires
-    cast-source
-    bytes-of-requires
-    rem-whole
+    is-whole-requires
     operation-of-requires
     by-blit-requires
     returns)

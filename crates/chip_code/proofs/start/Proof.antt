@@ -23,7 +23,8 @@ perform-requires : tie.Need-perform-requires
 perform-requires c κs =
     let a = c .before .before .before .before .before .args in
     let p = c .before .before .before .before .before .pre in
-    rw (c .before .job-of .ensures, p .2) (job-limits 262144 (a .b) (p .0) (p .1) (omega arith))
+    let some : operation (a .b) ≡ 0 → ⊥ = λ e. c .before .before .if1 .left (c .before .before .before .operation-of .ensures ∙ e) in
+    rw (c .before .job-of .ensures, p .2) (job-limits 262144 (a .b) (p .0) (p .1) some (omega arith))
 
 same-length : tie.Need-same-length
 same-length c = search needs
