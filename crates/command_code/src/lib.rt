@@ -1,13 +1,13 @@
-// The command record, and the register values of a command.
+// The command record, and its refusals.
 ghost use mathlib.Core.Path.{_≡_};
-ghost use Prim.Native.Nat.{_-_, _≤_};
+ghost use Prim.Native.Nat.{_≤_};
 ghost use mathlib.Core.Bool.{true};
-ghost use lib.ListN.{length};
+ghost use lib.ListN.{length, drop};
 ghost use Rattle.record.specs.Bytes.{byteAt, u16At, u32At, allZero};
 ghost use Rattle.record.specs.Checks.{firstOf};
-ghost use Rattle.command.specs.Command.{commandOf, byOperation, surfaceOf, mustBeZero, formed, insideImage, placed, lineWords, wordsTaken, commandRows, namesCommand, refusal, commandAnswer, numberOf};
+ghost use Rattle.screen.specs.Screen.{memorySize};
+ghost use Rattle.command.specs.Command.{commandOf, byOperation, lastOperation, mustBeZero, zerosFrom, patternFits, formed, insideImage, placed, lineWords, wordsTaken, commandRows, namesCommand, refusal, commandAnswer, numberOf};
 ghost use Rattle.command.specs.Task.{isForm, isList};
-ghost use Rattle.command.specs.Values.{addressOf, isNegative, lastColumn, lastLine, commandValue, sourceValue, destinationValue, controlValue, blitValues};
 use command::Command;
 use command::CommandAnswer;
 use screen::Image;
@@ -87,14 +87,14 @@ pub fn command_of(b: &[u8]) -> Command
     }
 }
 
-// The image that a command draws on.
-pub fn surface_of(s: Screen, c: Command) -> Image
-    ensures { λ r. ⌜ r ≡ surfaceOf s c ⌝ }
+// The last operation that a record has.
+fn last_operation(b: &[u8]) -> u8
+    ensures { λ r. ⌜ r ≡ lastOperation (now (b .entry)) ⌝ }
 {
-    if c.surface == 0 {
-        return screen_code::main_image(s);
+    if b.len() < 48 {
+        return 2;
     }
-    screen_code::window_image(s)
+    5
 }
 
 // Whether the fields that the operation does not use are zero.
@@ -107,20 +107,74 @@ fn is_unused_zero(c: Command) -> bool
     if c.operation == 1 {
         return c.colour == 0;
     }
-    (c.sx == 0) & ((c.sy == 0) & (c.colour == 0))
+    if c.operation == 2 {
+        return (c.sx == 0) & ((c.sy == 0) & (c.colour == 0));
+    }
+    if c.operation == 3 {
+        return (c.sx == 0) & ((c.sy == 0) & ((c.colour == 0) & (c.key == 0)));
+    }
+    if c.operation == 4 {
+        return (c.raster == 0) & ((c.sx == 0) & ((c.sy == 0) & (c.colour == 0)));
+    }
+    (c.raster == 0) & ((c.colour == 0) & ((c.px == 0) & ((c.py == 0) & (c.pattern == 0))))
+}
+
+// Where a long record's zeros begin.
+fn zeros_from(operation: u8) -> usize
+    ensures { λ r. ⌜ r ≡ zerosFrom operation ⌝ }
+{
+    if operation <= 2 {
+        return 32;
+    }
+    40
+}
+
+// Whether a long record's zeros are zero; a short one has none.
+fn is_past_zero(operation: u8, b: &[u8]) -> bool
+    ensures { λ r. ⌜ r ≡ allZero (drop (zerosFrom operation) (now (b .entry))) ⌝ }
+{
+    let n = b.len();
+    let from = record_code::least(zeros_from(operation), n);
+    record_code::all_zero(&b[from..n])
+}
+
+const MEMORY_SIZE: u64 = 262144;
+
+// Whether a pattern and its first pixel are where they can be.
+fn is_pattern(s: Screen, c: Command) -> bool
+    ensures { λ r. ⌜ r ≡ patternFits memorySize s c ⌝ }
+{
+    let size = 8 * s.depth as u64;
+    let at = c.pattern as u64;
+    let over = record_code::remainder(at, size);
+    (c.px <= 7) & ((c.py <= 7) & ((over == 0) & (at + size <= MEMORY_SIZE)))
+}
+
+// The same of operations 3 and 4, which have a pattern.
+fn is_pattern_formed(s: Screen, c: Command) -> bool
+    ensures { λ r. ⌜ r ≡ byOperation (c .operation) true true true (patternFits memorySize s c) (patternFits memorySize s c) true ⌝ }
+{
+    if c.operation <= 2 {
+        return true;
+    }
+    if c.operation <= 4 {
+        return is_pattern(s, c);
+    }
+    true
 }
 
 // Refusal 12: whether the command is one, and zero where it must be.
 fn is_formed(s: Screen, b: &[u8], c: Command) -> bool
     requires { ⌜ isForm (length (now b)) ≡ true ⌝ }
-    ensures { λ r. ⌜ r ≡ formed s (now (b .entry)) c ⌝ }
+    ensures { λ r. ⌜ r ≡ formed memorySize s (now (b .entry)) c ⌝ }
 {
-    let n = b.len();
+    let last = last_operation(b);
     let rest = record_code::all_zero(&b[18..32]);
-    let long = record_code::all_zero(&b[32..n]);
-    let colour = (s.depth != 8) | (c.colour <= 255);
-    let zero = is_unused_zero(c) & ((b[3] == 0) & (rest & long));
-    (c.operation <= 2) & ((c.surface <= s.flag) & ((c.raster <= 15) & (colour & zero)))
+    let past = is_past_zero(c.operation, b);
+    let pattern = is_pattern_formed(s, c);
+    let colours = (s.depth != 8) | ((c.colour <= 255) & (c.key <= 255));
+    let zero = is_unused_zero(c) & ((b[3] == 0) & (rest & (past & pattern)));
+    (c.operation <= last) & ((c.surface <= s.flag) & ((c.raster <= 15) & (colours & zero)))
 }
 
 // Whether a rectangle lies in an image.
@@ -136,10 +190,11 @@ fn is_inside(i: Image, x: u16, y: u16, width: u16, height: u16) -> bool
 fn is_placed(s: Screen, c: Command) -> bool
     ensures { λ r. ⌜ r ≡ placed s c ⌝ }
 {
-    let on = surface_of(s, c);
+    let on = command_values::surface_of(s, c);
     let destination = is_inside(on, c.x, c.y, c.width, c.height);
     let source = is_inside(on, c.sx, c.sy, c.width, c.height);
-    destination & ((c.operation != 1) | source)
+    let moves = (c.operation == 1) | (4 < c.operation);
+    destination & (!moves | source)
 }
 
 // The host words of a line.
@@ -156,7 +211,7 @@ fn line_words(depth: u8, width: u16) -> u32
 pub fn words_taken(s: Screen, c: Command) -> u32
     ensures { λ r. ⌜ r ≡ wordsTaken s c ⌝ }
 {
-    if c.operation <= 1 {
+    if c.operation != 2 {
         return 0;
     }
     line_words(s.depth, c.width) * c.height as u32
@@ -166,34 +221,36 @@ pub fn words_taken(s: Screen, c: Command) -> u32
 pub fn names_command(n: u32) -> bool
     ensures { λ r. ⌜ r ≡ namesCommand n ⌝ }
 {
-    (12 <= n) & (n <= 15)
+    ((12 <= n) & (n <= 15)) | (n == 29)
 }
 
 // The numbers of the checks of a command, in their order.
-const COMMAND_CHECKS: [u32; 4] = [12, 13, 14, 15];
+const COMMAND_CHECKS: [u32; 5] = [12, 13, 14, 29, 15];
 
-// The first of 12 to 15 that holds, with so many host words left; 0 for none.
+// The first of 12 to 15 and 29 that holds, with so many host words left; 0 for none.
 fn refusal_of(s: Screen, left: u64, b: &[u8], c: Command) -> u32
     requires { ⌜ isForm (length (now b)) ≡ true ⌝ }
-    ensures { λ r. ⌜ r ≡ firstOf (commandRows s left (now (b .entry)) c) ⌝ }
+    ensures { λ r. ⌜ r ≡ firstOf (commandRows memorySize s left (now (b .entry)) c) ⌝ }
 {
     let formed = is_formed(s, b, c);
     let placed = is_placed(s, c);
+    let clash = command_share::is_clash(s, c);
     let words = words_taken(s, c) as u64;
     let fails = [
         !formed,
         (c.width == 0) | (c.height == 0),
         !placed,
+        clash,
         left < words,
     ];
     record_code::first_of(&COMMAND_CHECKS, &fails)
 }
 
-// The command of a part of the list, a record in one of its forms, or the first refusal number of 12 to 15.
+// The command of a part of the list, a record in one of its forms, or the first refusal number of 12 to 15 and 29.
 pub fn read_command(s: Screen, left: u64, b: &[u8]) -> CommandAnswer
     requires { ⌜ isForm (length (now b)) ≡ true ⌝ }
-    ensures { λ r. ⌜ r ≡ commandAnswer s left (now (b .entry)) ⌝ }
-    ensures { λ r. ⌜ numberOf r ≡ refusal s left (now (b .entry)) ⌝ }
+    ensures { λ r. ⌜ r ≡ commandAnswer memorySize s left (now (b .entry)) ⌝ }
+    ensures { λ r. ⌜ numberOf r ≡ refusal memorySize s left (now (b .entry)) ⌝ }
 {
     let c = command_of(b);
     let n = refusal_of(s, left, b, c);
@@ -201,137 +258,4 @@ pub fn read_command(s: Screen, left: u64, b: &[u8]) -> CommandAnswer
         return CommandAnswer::Accepted(c);
     }
     CommandAnswer::Refused(n)
-}
-
-// The address of an image's pixel.
-fn address_of(depth: u8, i: Image, x: u32, y: u32) -> u64
-    requires { ⌜ (x ≤ 131070) × (y ≤ 131070) ⌝ }
-    ensures { λ r. ⌜ r ≡ addressOf depth i x y ⌝ }
-{
-    i.base as u64 + y as u64 * i.line as u64 + x as u64 * depth as u64 / 8
-}
-
-// Whether a move goes in negative direction.
-fn is_negative(s: Screen, c: Command) -> bool
-    ensures { λ r. ⌜ r ≡ isNegative s c ⌝ }
-{
-    let on = surface_of(s, c);
-    let source = address_of(s.depth, on, c.sx as u32, c.sy as u32);
-    let destination = address_of(s.depth, on, c.x as u32, c.y as u32);
-    (c.operation == 1) & (source < destination)
-}
-
-// A number less one; 0 for 0.
-fn less_one(n: u16) -> u32
-    ensures { λ r. ⌜ (r ≡ n - 1) × (r ≤ 65534) ⌝ }
-{
-    if n == 0 {
-        return 0;
-    }
-    n as u32 - 1
-}
-
-// The pixels from the left, and the lines from the top, to the pixel that a command starts at.
-fn last_column(s: Screen, c: Command) -> u32
-    ensures { λ r. ⌜ (r ≡ lastColumn s c) × (r ≤ 65534) ⌝ }
-{
-    if is_negative(s, c) {
-        return less_one(c.width);
-    }
-    0
-}
-
-fn last_line(s: Screen, c: Command) -> u32
-    ensures { λ r. ⌜ (r ≡ lastLine s c) × (r ≤ 65534) ⌝ }
-{
-    if is_negative(s, c) {
-        return less_one(c.height);
-    }
-    0
-}
-
-// The value of 8008h.
-fn command_value(s: Screen, c: Command) -> u64
-    ensures { λ r. ⌜ r ≡ commandValue s c ⌝ }
-{
-    let raster = 65536 * c.raster as u64;
-    if c.operation == 0 {
-        return 12 + raster;
-    }
-    if c.operation != 1 {
-        return 0 + raster;
-    }
-    if is_negative(s, c) {
-        return 3 + raster;
-    }
-    2 + raster
-}
-
-// The value of 800Ch.
-fn source_value(s: Screen, c: Command) -> u64
-    ensures { λ r. ⌜ r ≡ sourceValue s c ⌝ }
-{
-    if c.operation != 1 {
-        return 0;
-    }
-    let on = surface_of(s, c);
-    let x = c.sx as u32 + last_column(s, c);
-    let y = c.sy as u32 + last_line(s, c);
-    address_of(s.depth, on, x, y)
-}
-
-// The value of 8010h.
-fn destination_value(s: Screen, c: Command) -> u64
-    ensures { λ r. ⌜ r ≡ destinationValue s c ⌝ }
-{
-    let on = surface_of(s, c);
-    let x = c.x as u32 + last_column(s, c);
-    let y = c.y as u32 + last_line(s, c);
-    address_of(s.depth, on, x, y)
-}
-
-// The value of 8000h.
-fn control_value(depth: u8) -> u64
-    ensures { λ r. ⌜ r ≡ controlValue depth ⌝ }
-{
-    if depth == 16 {
-        return 0x40001;
-    }
-    1
-}
-
-// The value of 8024h: only a fill uses it.
-fn colour_value(c: Command) -> u64
-    ensures { λ r. ⌜ r ≡ byOperation (c .operation) (c .colour) 0 0 ⌝ }
-{
-    if c.operation == 0 {
-        return c.colour as u64;
-    }
-    0
-}
-
-// The nine register values of a command, in the stream's order.
-pub fn blit_values(s: Screen, c: Command) -> [u64; 9]
-    ensures { λ r. ⌜ r ≡ blitValues s c ⌝ }
-{
-    let on = surface_of(s, c);
-    let command = command_value(s, c);
-    let source = source_value(s, c);
-    let destination = destination_value(s, c);
-    let offset = on.line as u64 / 2;
-    let width = less_one(c.width) as u64;
-    let height = less_one(c.height) as u64;
-    let colour = colour_value(c);
-    let control = control_value(s.depth);
-    [
-        command,
-        source,
-        destination,
-        offset,
-        width,
-        height,
-        0,
-        colour,
-        control,
-    ]
 }

@@ -59,15 +59,9 @@ fn is_pattern_shared(s: Screen, c: Command) -> bool
     let on = command_values::surface_of(s, c);
     let destination = command_values::destination_of(s, c);
     let size = line_bytes(s.depth, c.width);
-    let pattern = 8 * s.depth as u32;
-    lines_meet(
-        destination,
-        on.line,
-        size,
-        c.height,
-        c.pattern as u64,
-        pattern,
-    )
+    let pattern = c.pattern as u64;
+    let bytes = 8 * s.depth as u32;
+    lines_meet(destination, on.line, size, c.height, pattern, bytes)
 }
 
 // Whether a transparent move's source shares a byte with a destination of a greater address.

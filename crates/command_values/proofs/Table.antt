@@ -15,6 +15,9 @@ module _ {A : Type 0} (n : ℕ) where
   pub up-to-three : (a k t : A) → n ≤ 3 → byOperation n a a a a k t ≡ a
   up-to-three a k t h = each n (by-fill n a a a a k t) (by-move n a a a a k t) (by-write n a a a a k t) (by-pattern n a a a a k t) (λ e. absurd (omega arith)) (λ p0 p1 p2 p3 p4. absurd (omega arith))
 
+  pub past-two : (f m w a : A) → 2 < n → byOperation n f m w a a a ≡ a
+  past-two f m w a h = each n (λ e. absurd (omega arith)) (λ e. absurd (omega arith)) (λ e. absurd (omega arith)) (by-pattern n f m w a a a) (by-keyed n f m w a a a) (by-other n f m w a a a)
+
   pub three-or-four : (f m w a t : A) → 2 < n → n ≤ 4 → byOperation n f m w a a t ≡ a
   three-or-four f m w a t h k = each n (λ e. absurd (omega arith)) (λ e. absurd (omega arith)) (λ e. absurd (omega arith)) (by-pattern n f m w a a t) (by-keyed n f m w a a t) (λ p0 p1 p2 p3 p4. absurd (omega arith))
 

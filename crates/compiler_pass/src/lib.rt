@@ -7,6 +7,7 @@ ghost use lib.Seq.{sets};
 ghost use Rattle.record.specs.Checks.{firstOf};
 ghost use Rattle.record.specs.Lists.{partsOf};
 ghost use Rattle.record.specs.Record.{streamBytes};
+ghost use Rattle.screen.specs.Screen.{memorySize};
 ghost use Rattle.command.specs.Task.{isForm, listRows, firstRefusal};
 ghost use Rattle.compiler.specs.Stream.{recordsWith, screenRecords, dataRecords, commandRecords, drawRecords};
 ghost use Rattle.compiler.specs.Pass.{passOf};
@@ -46,7 +47,7 @@ pub fn list_fault(form: u32, s: Screen, list: &[u8]) -> u32
 pub fn first_pass(form: u32, s: Screen, list: &[u8], left: u64) -> Pass
     requires { ⌜ isForm form ≡ true ⌝ }
     requires { ⌜ length (now list) ≤ 64 * form ⌝ }
-    ensures { λ r. ⌜ r ≡ passOf s left (partsOf form (now (list .entry))) ⌝ }
+    ensures { λ r. ⌜ r ≡ passOf memorySize s left (partsOf form (now (list .entry))) ⌝ }
     ensures { λ r. ⌜ r .used ≤ 64 * 4294967295 ⌝ }
 {
     let size = form as usize;
@@ -133,7 +134,7 @@ fn put_command(s: Screen, c: Command, buffer: &mut [u8], at: usize, words: &[u16
     requires { ⌜ at + 72 + 8 * length (now words) ≤ length (now buffer) ⌝ }
     ensures { λ _. ⌜ now (buffer .exit) ≡ sets (now (buffer .entry)) at (streamBytes (commandRecords s c (now (words .entry)))) ⌝ }
 {
-    let values = command_code::blit_values(s, c);
+    let values = command_values::blit_values(s, c);
     put_records(buffer, at, &BLIT_REGISTERS, &values);
     put_words(buffer, at + 72, words);
 }
@@ -141,7 +142,7 @@ fn put_command(s: Screen, c: Command, buffer: &mut [u8], at: usize, words: &[u16
 // The second pass: stores the records of commands that the first pass accepts, behind the screen's.
 pub fn second_pass(form: u32, s: Screen, list: &[u8], words: &[u16], buffer: &mut [u8])
     requires { ⌜ isForm form ≡ true ⌝ }
-    requires { ⌜ firstRefusal s 0 (length (now words)) (partsOf form (now list)) .number ≡ 0 ⌝ }
+    requires { ⌜ firstRefusal memorySize s 0 (length (now words)) (partsOf form (now list)) .number ≡ 0 ⌝ }
     requires { ⌜ 48 + 8 * length (drawRecords s (now words) (partsOf form (now list))) ≤ length (now buffer) ⌝ }
     ensures { λ _. ⌜ now (buffer .exit) ≡ sets (now (buffer .entry)) 48 (streamBytes (drawRecords s (now (words .entry)) (partsOf form (now (list .entry))))) ⌝ }
 {

@@ -1,5 +1,5 @@
+use Rattle.command_code.proofs.Rows.{placed-is}
 use borrow.Author.Needs.{needs}
-use Rattle.command.proofs.Answer.{placed-is}
 use Rattle.command_code.proofs.is_placed.Statement.{statement}
 use Rattle.command_code.proofs.is_placed.Tie as tie
 
@@ -13,7 +13,7 @@ is-inside-requires-2 : tie.Need-is-inside-requires-2
 is-inside-requires-2 c κs = search needs
 
 returns : tie.Need-returns
-returns c = placed-is _ _ _ _ _ (c .before .before .before .surface-of .ensures) (c .before .before .is-inside .ensures) (c .before .is-inside2 .ensures)
+returns c = placed-is _ _ _ _ _ (c .before .before .before .before .surface-of .ensures) (c .before .before .before .is-inside .ensures) (c .before .before .is-inside2 .ensures)
 
 pub is-placed-spec : {M : Type 1} → statement M
 is-placed-spec =

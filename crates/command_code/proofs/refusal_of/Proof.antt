@@ -1,7 +1,7 @@
 use mathlib.Core.Path.{_∙_, ap}
-use borrow.Author.Needs.{needs}
 use Rattle.record.specs.Checks.{firstOf}
 use Rattle.command.proofs.Answer.{rows-are}
+use borrow.Author.Needs.{needs}
 use Rattle.command_code.proofs.refusal_of.Statement.{statement}
 use Rattle.command_code.proofs.refusal_of.Tie as tie
 
@@ -10,6 +10,9 @@ is-formed-requires c κs = search needs
 
 is-placed-requires : tie.Need-is-placed-requires
 is-placed-requires c κs = search needs
+
+is-clash-requires : tie.Need-is-clash-requires
+is-clash-requires c κs = search needs
 
 words-taken-requires : tie.Need-words-taken-requires
 words-taken-requires c κs = search needs
@@ -27,9 +30,7 @@ first-of-requires : tie.Need-first-of-requires
 first-of-requires c κs = search needs
 
 returns : tie.Need-returns
-returns c =
-    c .first-of .ensures
-    ∙ ap firstOf (rows-are _ _ _ _ _ _ _ (c .before .before .before .before .before .before .before .is-formed .ensures) (c .before .before .before .before .before .before .is-placed .ensures) (c .before .before .before .before .before .words-taken .ensures))
+returns c = c .first-of .ensures ∙ ap firstOf (rows-are _ _ _ _ _ _ _ _ _ (c .before .before .before .before .before .before .before .before .is-formed .ensures) (c .before .before .before .before .before .before .before .is-placed .ensures) (c .before .before .before .before .before .before .is-clash .ensures) (c .before .before .before .before .before .words-taken .ensures))
 
 pub refusal-of-spec : {M : Type 1} → statement M
 refusal-of-spec =
@@ -37,6 +38,7 @@ refusal-of-spec =
     (tie.spec
     is-formed-requires
     is-placed-requires
+    is-clash-requires
     words-taken-requires
     cast-words
     slice-aggregate-first-of

@@ -3,9 +3,9 @@ use mathlib.Core.Path.{sym, ap, _∙_}
 use native.Mathlib.Omega.{arith}
 use native.Mathlib.Nat.{lt-of-le-of-lt, mul-le-mul}
 use lib.Dec.{lit<}
-use borrow.Author.Needs.{needs}
 use Rattle.command.specs.Command.{wordsTaken}
-use Rattle.command.proofs.Operation.{by-other, not-write}
+use Rattle.command.proofs.Operation.{by-write, not-write}
+use borrow.Author.Needs.{needs}
 use Rattle.command_code.proofs.words_taken.Statement.{statement}
 use Rattle.command_code.proofs.words_taken.Tie as tie
 
@@ -24,9 +24,7 @@ mul-result c = record { fits = lt-of-le-of-lt (mul-le-mul {n₂ = 65535} {m₂ =
 
 returns-2 : tie.Need-returns-2
 unfolding wordsTaken
-returns-2 c =
-    ap (λ (n : ℕ). n * c .before .before .before .before .args .c .height) (c .before .line-words .ensures .0)
-    ∙ sym (by-other (c .before .before .before .before .args .c .operation) _ _ _ (λ z. omega (arith, c .before .before .if1 .left)) (λ z. omega (arith, c .before .before .if1 .left)))
+returns-2 c = ap (λ (n : ℕ). n * c .before .before .before .before .args .c .height) (c .before .line-words .ensures .0) ∙ sym (by-write _ _ _ _ _ _ _ (c .before .before .if1 .left))
 
 pub words-taken-spec : {M : Type 1} → statement M
 words-taken-spec =

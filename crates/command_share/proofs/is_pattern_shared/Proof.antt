@@ -6,8 +6,8 @@ use Rattle.command_share.proofs.is_pattern_shared.Statement.{statement}
 use Rattle.command_share.proofs.is_pattern_shared.Tie as tie
 
 -- the pattern's address, the last of the command's fields, is one of 32 bits
-address : (c : tie.After-struct-known2) → c .before .before .before .before .before .args .c .pattern < 4294967296
-address c = omega (arith, c .struct-known2 .given .1 .1 .1 .1 .1 .1 .1 .1 .1 .1 .1 .1 .1)
+address : (c : tie.After-struct-known) → c .before .before .before .before .args .c .pattern < 4294967296
+address c = omega (arith, c .struct-known .given .1 .1 .1 .1 .1 .1 .1 .1 .1 .1 .1 .1 .1)
 
 surface-of-requires : tie.Need-surface-of-requires
 surface-of-requires c κs = search needs
@@ -19,16 +19,16 @@ line-bytes-requires : tie.Need-line-bytes-requires
 line-bytes-requires c κs = search needs
 
 cast-pattern : tie.Need-cast-pattern
-cast-pattern c = search needs
+cast-pattern c = omega (arith, address c)
 
-mul-pattern : tie.Need-mul-pattern
-mul-pattern c = search needs
+cast-bytes : tie.Need-cast-bytes
+cast-bytes c = search needs
 
-cast-lines-meet : tie.Need-cast-lines-meet
-cast-lines-meet c = omega (arith, address c)
+mul-bytes : tie.Need-mul-bytes
+mul-bytes c = search needs
 
 lines-meet-requires : tie.Need-lines-meet-requires
-lines-meet-requires c κs = (c .before .before .before .destination-of .ensures .1, omega (arith, address c))
+lines-meet-requires c κs = (c .before .before .before .destination-of .ensures .1, omega (arith, address (c .before)))
 
 returns : tie.Need-returns
 returns c = pattern-shared _ _ _ _ _ _ (c .before .before .before .before .before .surface-of .ensures) (c .before .before .before .line-bytes .ensures) (c .before .before .before .before .destination-of .ensures .0) (c .lines-meet .ensures)
@@ -41,7 +41,7 @@ is-pattern-shared-spec =
     destination-of-requires
     line-bytes-requires
     cast-pattern
-    mul-pattern
-    cast-lines-meet
+    cast-bytes
+    mul-bytes
     lines-meet-requires
     returns)

@@ -4,6 +4,7 @@ use native.Mathlib.Nat.{add-sub-cancel-left}
 use native.Mathlib.Omega.{arith}
 use lib.ListN.{length, take, drop}
 use borrow.Author.Needs.{needs}
+use Rattle.screen.specs.Screen.{memorySize}
 use Rattle.command.specs.Command.{commandAnswer}
 use Rattle.command.proofs.Forms.{form-least, part-ends, part-formed, count-most}
 use Rattle.compiler.proofs.FirstPass.{Going, partAt, going-start, going-turn, words-fit, pass-refused, pass-done}
@@ -11,7 +12,7 @@ use Rattle.compiler_pass.proofs.first_pass.Statement.{statement}
 use Rattle.compiler_pass.proofs.first_pass.Tie as tie
 
 abbrev Inv-loop : tie.InvT-loop
-Inv-loop form s list left size count i₀ used₀ i used = Going s form list left count i used
+Inv-loop form s list left size count i₀ used₀ i used = Going memorySize s form list left count i used
 
 abbrev μ-loop : tie.MeasureT-loop
 μ-loop form s list left size count i₀ used₀ i used = count - i
@@ -29,18 +30,18 @@ few c = count-most (c .before .before .before .args .form) (length (c .before .b
 
 -- the answer is that to command i
 answered : (c : tie.After-read-command Inv-loop μ-loop) → let a = c .before .before .before .before .before .args in let l = c .before .before .before .loop in
-    commandAnswer (a .s) (a .left - l .used) (partAt (a .form) (a .list .now) (l .i)) ≡ c .read-command .result
+    commandAnswer memorySize (a .s) (a .left - l .used) (partAt (a .form) (a .list .now) (l .i)) ≡ c .read-command .result
 answered c =
     let a = c .before .before .before .before .before .args in
     let l = c .before .before .before .loop in
-    ap (λ (n : ℕ). commandAnswer (a .s) (a .left - l .used) (take n (drop (l .i * a .form) (a .list .now)))) (sym (add-sub-cancel-left (l .i * a .form) (a .form)))
+    ap (λ (n : ℕ). commandAnswer memorySize (a .s) (a .left - l .used) (take n (drop (l .i * a .form) (a .list .now)))) (sym (add-sub-cancel-left (l .i * a .form) (a .form)))
     ∙ sym (c .read-command .ensures .0)
 
 div-count : tie.Need-div-count Inv-loop μ-loop
 div-count c = omega (arith, form-least (c .before .args .form) (c .before .pre .0))
 
 loop-holds : tie.Need-loop-holds Inv-loop μ-loop
-loop-holds c = going-start _ _ _ _
+loop-holds c = going-start _ _ _ _ _
 
 mul-at : tie.Need-mul-at Inv-loop μ-loop
 mul-at c = omega (arith, ends c)
@@ -69,7 +70,7 @@ enum-known-answer c = search needs
 returns : tie.Need-returns Inv-loop μ-loop
 returns c =
     let l = c .before .before .before .before .before .before .loop in
-    (pass-refused _ _ _ _ _ (l .i) (l .used) (l .inv) _ (c .before .before .before .before .before .loop-test .taken) (answered (c .before .before .before) ∙ c .before .answer .given .1), omega arith)
+    (pass-refused _ _ _ _ _ _ (l .i) (l .used) (l .inv) _ (c .before .before .before .before .before .loop-test .taken) (answered (c .before .before .before) ∙ c .before .answer .given .1), omega arith)
 
 enum-known-answer-2 : tie.Need-enum-known-answer-2 Inv-loop μ-loop
 enum-known-answer-2 c = search needs
@@ -83,7 +84,7 @@ cast-used c = search needs
 add-used : tie.Need-add-used Inv-loop μ-loop
 add-used c =
     let l = c .before .before .before .before .before .before .before .loop in
-    omega (arith, c .words-taken .ensures, words-fit _ _ _ _ _ (l .i) (l .used) (l .inv) _ (answered (c .before .before .before .before) ∙ c .before .before .answer2 .given .1))
+    omega (arith, c .words-taken .ensures, words-fit _ _ _ _ _ _ (l .i) (l .used) (l .inv) _ (answered (c .before .before .before .before) ∙ c .before .before .answer2 .given .1))
 
 add-i : tie.Need-add-i Inv-loop μ-loop
 add-i c = omega (arith, c .before .before .before .before .before .before .loop-test .taken, c .before .before .before .before .before .before .before .loop .inv .count-is, count-most (c .before .before .before .before .before .before .before .before .before .args .form) (length (c .before .before .before .before .before .before .before .before .before .args .list .now)) (c .before .before .before .before .before .before .before .before .before .pre .1))
@@ -95,12 +96,12 @@ loop-again : tie.Need-loop-again Inv-loop μ-loop
 loop-again c =
     let l = c .before .before .before .before .before .before .before .loop in
     rw (c .words-taken .ensures)
-    (going-turn _ _ _ _ _ (l .i) (l .used) (l .inv) _ (c .before .before .before .before .before .before .loop-test .taken) (omega (arith, c .words-taken .ensures, c .words-taken .ok)) (answered (c .before .before .before .before) ∙ c .before .before .answer2 .given .1))
+    (going-turn _ _ _ _ _ _ (l .i) (l .used) (l .inv) _ (c .before .before .before .before .before .before .loop-test .taken) (omega (arith, c .words-taken .ensures, c .words-taken .ok)) (answered (c .before .before .before .before) ∙ c .before .before .answer2 .given .1))
 
 returns-2 : tie.Need-returns-2 Inv-loop μ-loop
 returns-2 c =
     let l = c .before .loop in
-    (pass-done _ _ _ _ _ (l .i) (l .used) (l .inv) (c .loop-test .left), omega (arith, l .inv .small, l .inv .within, few c))
+    (pass-done _ _ _ _ _ _ (l .i) (l .used) (l .inv) (c .loop-test .left), omega (arith, l .inv .small, l .inv .within, few c))
 
 pub first-pass-spec : {M : Type 1} → statement M
 first-pass-spec =

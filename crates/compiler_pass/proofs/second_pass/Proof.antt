@@ -4,6 +4,7 @@ use native.Mathlib.Nat.{add-sub-cancel-left, div-le-self}
 use native.Mathlib.Omega.{arith}
 use lib.ListN.{length, take, drop}
 use borrow.Author.Needs.{needs}
+use Rattle.screen.specs.Screen.{memorySize}
 use Rattle.command.specs.Command.{commandOf, wordsTaken}
 use Rattle.command.proofs.Forms.{form-least, part-ends, part-formed}
 use Rattle.compiler.proofs.FirstPass.{partAt}
@@ -12,7 +13,7 @@ use Rattle.compiler_pass.proofs.second_pass.Statement.{statement}
 use Rattle.compiler_pass.proofs.second_pass.Tie as tie
 
 abbrev Inv-loop : tie.InvT-loop
-Inv-loop form s list words buffer₀ size commands i₀ used₀ at₀ buffer i used at = Writing s form list words buffer₀ buffer commands i used at
+Inv-loop form s list words buffer₀ size commands i₀ used₀ at₀ buffer i used at = Writing memorySize s form list words buffer₀ buffer commands i used at
 
 abbrev μ-loop : tie.MeasureT-loop
 μ-loop form s list words buffer₀ size commands i₀ used₀ at₀ buffer i used at = commands - i
@@ -29,10 +30,10 @@ command-is : (c : tie.After-command-of Inv-loop μ-loop) → c .command-of .resu
 command-is c = c .command-of .ensures ∙ ap (λ (n : ℕ). commandOf (take n (drop (c .before .before .before .loop .i * c .before .before .before .before .before .before .before .args .form) (c .before .before .before .before .before .before .before .args .list .now)))) (add-sub-cancel-left (c .before .before .before .loop .i * c .before .before .before .before .before .before .before .args .form) (c .before .before .before .before .before .before .before .args .form))
 
 words-left : (c : tie.After-command-of Inv-loop μ-loop) → c .before .before .before .loop .used + wordsTaken (c .before .before .before .before .before .before .before .args .s) (c .command-of .result) ≤ length (c .before .before .before .before .before .before .before .args .words .now)
-words-left c = let l = c .before .before .before .loop in words-there _ _ _ _ _ (l .buffer) _ (l .i) (l .used) (l .at) (l .inv) _ (c .before .before .loop-test .taken) (command-is c)
+words-left c = let l = c .before .before .before .loop in words-there _ _ _ _ _ _ (l .buffer) _ (l .i) (l .used) (l .at) (l .inv) _ (c .before .before .loop-test .taken) (command-is c)
 
 room-left : (c : tie.After-command-of Inv-loop μ-loop) → c .before .before .before .loop .at + 72 + 8 * wordsTaken (c .before .before .before .before .before .before .before .args .s) (c .command-of .result) ≤ length (c .before .before .before .loop .buffer)
-room-left c = let l = c .before .before .before .loop in room-there _ _ _ _ _ (l .buffer) _ (l .i) (l .used) (l .at) (l .inv) _ (c .before .before .loop-test .taken) (command-is c)
+room-left c = let l = c .before .before .before .loop in room-there _ _ _ _ _ _ (l .buffer) _ (l .i) (l .used) (l .at) (l .inv) _ (c .before .before .loop-test .taken) (command-is c)
 
 -- where the next command's records start
 next-at : (c : tie.After-slice-known2 Inv-loop μ-loop) → c .before .before .before .before .before .before .before .before .before .loop .at + 72 + 8 * c .before .before .before .before .before .words-taken .result < 2 ^ 64
@@ -42,7 +43,7 @@ div-commands : tie.Need-div-commands Inv-loop μ-loop
 div-commands c = omega (arith, form-least (c .before .before .before .args .form) (c .before .before .before .pre .0))
 
 loop-holds : tie.Need-loop-holds Inv-loop μ-loop
-loop-holds c = writing-start _ _ _ _ _ (c .before .before .before .pre .1 .0) (c .before .before .before .pre .1 .1)
+loop-holds c = writing-start _ _ _ _ _ _ (c .before .before .before .pre .1 .0) (c .before .before .before .pre .1 .1)
 
 mul-from : tie.Need-mul-from Inv-loop μ-loop
 mul-from c = omega (arith, ends c, c .before .before .before .before .before .good)
@@ -88,7 +89,7 @@ put-command-requires c κs =
     let p = c .before .before .before in
     let l = p .before .before .before .loop in
     let n = c .before .before .words-taken in
-    omega (arith, room-left p, n .ensures, part-length _ _ _ _ _ (l .buffer) _ (l .i) (l .used) (l .at) (l .inv) _ (p .before .before .loop-test .taken) (command-is p) (n .result) (n .ensures))
+    omega (arith, room-left p, n .ensures, part-length _ _ _ _ _ _ (l .buffer) _ (l .i) (l .used) (l .at) (l .inv) _ (p .before .before .loop-test .taken) (command-is p) (n .result) (n .ensures))
 
 add-at : tie.Need-add-at Inv-loop μ-loop
 add-at c = omega (arith, next-at c)
@@ -110,13 +111,13 @@ loop-again c =
     let p = c .before .before .before .before .before .before in
     let l = p .before .before .before .loop in
     let n = c .before .before .before .before .before .words-taken in
-    writing-step _ _ _ _ _ (l .buffer) _ (l .i) (l .used) (l .at) (l .inv) _ (p .before .before .loop-test .taken) (command-is p) (n .result) _ (n .ensures) (c .before .before .put-command .ensures)
+    writing-step _ _ _ _ _ _ (l .buffer) _ (l .i) (l .used) (l .at) (l .inv) _ (p .before .before .loop-test .taken) (command-is p) (n .result) _ (n .ensures) (c .before .before .put-command .ensures)
 
 same-length : tie.Need-same-length Inv-loop μ-loop
 same-length c = search needs
 
 returns : tie.Need-returns Inv-loop μ-loop
-returns c = let l = c .before .loop in writing-end _ _ _ _ _ _ _ (l .i) (l .used) (l .at) (l .inv) (c .loop-test .left)
+returns c = let l = c .before .loop in writing-end _ _ _ _ _ _ _ _ (l .i) (l .used) (l .at) (l .inv) (c .loop-test .left)
 
 pub second-pass-spec : {M : Type 1} → statement M
 second-pass-spec =
