@@ -653,7 +653,7 @@ impl Bench {
         let theirs = chip.compile[1](form, screen, list, words, other);
         same("compile", answer, theirs, input)?;
         same_bytes("compile's stream", stream, other, input)?;
-        let told = records::told(form, list, |list| {
+        let told = records::told(form, screen, list, |list| {
             chip.compile[0](SHORT, screen, list, words, &mut vec![0; room])
         });
         same("compile, as short lists say", answer, told, input)?;
