@@ -443,19 +443,21 @@ fn damage_command(rng: &mut Rng, part: &mut [u8]) {
         0 => part[rng.below(part.len() as u64) as usize] = rng.any() as u8,
         1 => part[0] = operation_above(rng),
         2..=4 if part.len() > 32 && part[0] <= 2 => damage_past(rng, part),
-        2..=6 if part.len() > 32 && part[0] <= 5 => damage_new(rng, part),
+        2..=5 if part.len() > 32 && part[0] <= 5 => damage_new(rng, part),
         _ => nudge(rng, part, &COMMAND_FIELDS),
     }
 }
 
-/// Changes what a long command with operation 3 to 5 asks of a field, or keeps zero.
+/// Changes a field of a long command with operation 3 to 5.
 fn damage_new(rng: &mut Rng, part: &mut [u8]) {
     let (byte, number) = (rng.pick(&[1, 7, 8, 12, 16, 128, 255]), rng.pick(&[1, 255, 256, 0x5A5A]));
-    match rng.below(10) {
+    match rng.below(12) {
         0 => part[2] = byte,
         1 => set(part, rng.pick(&[12, 14]), 2, number),
         2 => set(part, 16, 2, number),
         3 => set(part, 32, 2, number),
+        9 => set(part, 32, 2, rng.pick(&[256, 511, 0x5A5A])),
+        10 => set(part, rng.pick(&[8, 10]), 2, 0),
         4 => part[34] = byte,
         5 => part[35] = byte,
         6 => set(part, 36, 4, field(part, 36, 4) ^ 1 << rng.below(7)),

@@ -90,8 +90,8 @@ pub fn any_above(form: u32, list: &[u8]) -> bool {
     records(form, list).is_some_and(|records| records.iter().any(|record| record.operation() > 2))
 }
 
-/// Fields that make 12 of a long command with operation 3 to 5, in the order of `grounds`.
-pub const GROUNDS: [&str; 9] = [
+/// The fields that may make 12 of a long command with operation 3 to 5.
+pub const FIELDS: [&str; 9] = [
     "raster code",
     "source",
     "colour",
@@ -119,8 +119,8 @@ impl Record {
         first..first + 64 * usize::from(depth) / 8
     }
 
-    /// Which fields of such a command make 12. What is left is asked of the command that stands in for it.
-    fn grounds(&self, depth: u8) -> [bool; 9] {
+    /// Which of `FIELDS` make 12 of such a command. What is left is asked of the command that stands in for it.
+    fn grounds(&self, depth: u8) -> [bool; FIELDS.len()] {
         let (code, colour) = (self.as_now[2], self.number(16));
         let source = (self.number(12), self.number(14)) != (0, 0);
         let bytes = self.pattern_bytes(depth);
@@ -170,8 +170,8 @@ impl Record {
     }
 }
 
-/// The command of a long list with operation 3 to 5, its grounds of 12 at a depth, and what stands in for it.
-pub fn asked(part: &[u8], depth: u8) -> Option<([bool; 9], [u8; 32])> {
+/// Of a long command with operation 3 to 5, which of `FIELDS` make 12 at a depth, and what stands in for it.
+pub fn asked(part: &[u8], depth: u8) -> Option<([bool; FIELDS.len()], [u8; 32])> {
     let (record, _) = Record::read(48, part)?;
     record.is_new(48).then(|| (record.grounds(depth), record.stand_in(48)))
 }
