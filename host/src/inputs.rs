@@ -740,7 +740,7 @@ pub fn foreign(rng: &mut Rng) -> Vec<u8> {
         if matches!(operation, 5 | 7) || rng.one_in(4) {
             // At depth 8 the high byte is any.
             let high = if pixel == 1 { rng.any() << 8 } else { 0 };
-            setup.push((0x8020, colour(rng, 8 * pixel) + high & 0xFFFF));
+            setup.push((0x8020, (colour(rng, 8 * pixel) | high) & 0xFFFF));
         }
         if rng.one_in(4) {
             setup.push((0x8000, rng.pick(&[0, 0x4_0000])));

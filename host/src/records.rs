@@ -133,9 +133,7 @@ impl Record {
         match self.operation() {
             3 => [code > 15, source, colour, any_key, no_x, no_y, no_multiple, outside, zero],
             4 => [code != 0, source, colour, high_key, no_x, no_y, no_multiple, outside, zero],
-            _ => {
-                [code != 0, false, colour, high_key, x != 0, y != 0, pattern != 0, false, zero]
-            }
+            _ => [code != 0, false, colour, high_key, x != 0, y != 0, pattern != 0, false, zero],
         }
     }
 

@@ -77,8 +77,9 @@ fn whole_pixel(bytes: &[u8], depth: usize, at: usize) -> u32 {
 /// The pixels of the pattern that a command names, row by row.
 fn pattern(bytes: &[u8], depth: usize, command: &[u8]) -> [[u32; 8]; 8] {
     let first = number(command, 36) + 65_536 * number(command, 38);
-    let pixel =
-        |column: usize, row: usize| whole_pixel(bytes, depth, first + (8 * row + column) * depth / 8);
+    let pixel = |column: usize, row: usize| {
+        whole_pixel(bytes, depth, first + (8 * row + column) * depth / 8)
+    };
     std::array::from_fn(|row| std::array::from_fn(|column| pixel(column, row)))
 }
 
@@ -103,12 +104,7 @@ fn combined(code: u8, s: u32, d: u32) -> u32 {
 
 /// Which bytes of a memory of so many the pixels of a command's rectangle take, its upper left pixel on the
 /// surface being (x, y).
-pub fn bytes_of(
-    screen: &[u8],
-    command: &[u8],
-    (x, y): (usize, usize),
-    memory: usize,
-) -> Vec<bool> {
+pub fn bytes_of(screen: &[u8], command: &[u8], (x, y): (usize, usize), memory: usize) -> Vec<bool> {
     let on = surface(screen, command[1]);
     let mut taken = vec![false; memory];
     for j in 0..number(command, 10) {

@@ -327,7 +327,8 @@ impl Hatched {
         }
         // The source's alone, where it is 21.
         let [odd, outside] = &mut self.starts[operation as usize - 5];
-        *odd += u64::from(answer.number == 21 && source % 2 == 1 && registers[9] % 2 == 0);
+        let odds = [source % 2, registers[9] % 2];
+        *odd += u64::from(answer.number == 21 && odds == [1, 0]);
         *outside += u64::from(answer.number == 22);
     }
 
@@ -357,7 +358,8 @@ impl Hatched {
         ];
         for (operation, grounds) in (3..).zip(self.grounds) {
             // A transparent move has a source, and of a pattern address zero.
-            let asked = |i: &usize| operation != 5 || !["source", "pattern outside"].contains(&FIELDS[*i]);
+            let asked =
+                |i: &usize| operation != 5 || !["source", "pattern outside"].contains(&FIELDS[*i]);
             let asked: Vec<usize> = (0..FIELDS.len()).filter(asked).collect();
             let names: Vec<&str> = asked.iter().map(|&i| FIELDS[i]).collect();
             rows.push((
