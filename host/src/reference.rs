@@ -223,9 +223,8 @@ struct Command {
     source_y: u32,
     colour: u32,
     key: u32,
-    /// The pattern's address, and the bytes in it before its first pixel.
+    /// The address of the pattern's first pixel.
     pattern: u32,
-    phase: u32,
 }
 
 const FILL: u8 = 0;
@@ -242,33 +241,32 @@ const fn pattern_size(depth: u32) -> u32 {
 }
 
 impl Command {
-    /// A command of the list, in either form, or refusal 12 to 14 or 29.
+    /// A command of the list, in either form, or refusal 12 to 14.
     fn read(part: &[u8], screen: &Screen) -> Result<Command, u32> {
         let (operation, surface, code) = (part[0], part[1], part[2]);
         let source_zero = all_zero(&part[12..16]);
         let colour = u16_at(part, 16);
+        let past = part.get(32..48).map_or(0, |past| u128::from_le_bytes(past.try_into().unwrap()));
         let mut further = Further::default();
         let right = match operation {
-            FILL => code == 0 && source_zero && all_zero(&part[32..]),
-            MOVE => colour == 0 && all_zero(&part[32..]),
-            WRITE => source_zero && colour == 0 && all_zero(&part[32..]),
+            FILL => code == 0 && source_zero && past == 0,
+            MOVE => colour == 0 && past == 0,
+            WRITE => source_zero && colour == 0 && past == 0,
             PATTERN | KEYED | CLEAR if part.len() == LONG as usize => {
                 further = Further::read(part);
-                let used = match operation {
-                    PATTERN => source_zero && further.key == 0 && further.has_pattern(screen.depth),
-                    KEYED => source_zero && code == 0 && further.has_pattern(screen.depth),
-                    _ => code == 0 && further == Further { key: further.key, ..Further::default() },
-                };
-                used && colour == 0 && all_zero(&part[40..])
+                further.right(operation, code, screen.depth)
+                    && colour == 0
+                    && (operation == CLEAR || source_zero)
+                    && all_zero(&part[40..])
             }
             _ => return Err(12),
         };
         if u32::from(surface) > screen.flag
             || code > 15
-            || screen.depth == 8 && (colour > 255 || further.key > 255)
+            || screen.depth == 8 && colour > 255
             || !right
             || part[3] != 0
-            || !all_zero(&part[18..32])
+            || u128::from_le_bytes(part[16..32].try_into().unwrap()) >> 16 != 0
         {
             return Err(12);
         }
@@ -284,8 +282,7 @@ impl Command {
             source_y: u16_at(part, 14),
             colour,
             key: further.key,
-            pattern: further.pattern,
-            phase: (8 * further.y + further.x) * screen.depth / 8,
+            pattern: further.pattern + (8 * further.y + further.x) * screen.depth / 8,
         };
         let Command { image, x, y, width, height, source_x, source_y, .. } = command;
         if width == 0 || height == 0 {
@@ -295,25 +292,28 @@ impl Command {
         if !image.holds(x, y, width, height) || !image.holds(source_x, source_y, width, height) {
             return Err(14);
         }
-        let clashes = match operation {
-            PATTERN | KEYED => command.meets_pattern(screen.depth),
-            CLEAR => command.meets_source() && (y, x) > (source_y, source_x),
-            _ => false,
-        };
-        if clashes {
-            return Err(29);
-        }
         Ok(command)
+    }
+
+    /// Whether refusal 29 holds.
+    fn clashes(&self, depth: u32) -> bool {
+        match self.operation {
+            PATTERN | KEYED => self.meets_pattern(depth),
+            CLEAR => self.meets_source() && (self.y, self.x) > (self.source_y, self.source_x),
+            _ => false,
+        }
     }
 
     /// Whether the pattern shares a byte with the destination: the first line that does not end before
     /// the pattern begins before the pattern ends.
     fn meets_pattern(&self, depth: u32) -> bool {
+        let size = pattern_size(depth);
+        let pattern = self.pattern / size * size;
         let line = self.image.line(depth);
         let first = self.image.address(depth, self.x, self.y);
         let end = first + self.width * depth / 8;
-        let j = if end > self.pattern { 0 } else { (self.pattern - end) / line + 1 };
-        j < self.height && first + j * line < self.pattern + pattern_size(depth)
+        let j = if end > pattern { 0 } else { (pattern - end) / line + 1 };
+        j < self.height && first + j * line < pattern + size
     }
 
     /// Whether source and destination share a byte, which pixels of one surface do where they are one.
@@ -331,7 +331,7 @@ impl Command {
 }
 
 /// What a long record has from byte 32 on, up to byte 39.
-#[derive(Clone, Copy, Default, PartialEq, Eq)]
+#[derive(Clone, Copy, Default)]
 struct Further {
     key: u32,
     /// The pattern's first pixel, and its address.
@@ -344,6 +344,16 @@ impl Further {
     fn read(part: &[u8]) -> Further {
         let (x, y) = (part[34].into(), part[35].into());
         Further { key: u16_at(part, 32), x, y, pattern: u32_at(part, 36) }
+    }
+
+    /// Whether an operation takes them with its raster code.
+    fn right(&self, operation: u8, code: u8, depth: u32) -> bool {
+        let has_key = depth == 16 || self.key <= 255;
+        match operation {
+            PATTERN => self.key == 0 && self.has_pattern(depth),
+            KEYED => code == 0 && has_key && self.has_pattern(depth),
+            _ => code == 0 && has_key && (self.x, self.y, self.pattern) == (0, 0, 0),
+        }
     }
 
     /// Whether there is such a pixel, and such a pattern in the memory.
@@ -388,6 +398,9 @@ fn plan(form: u32, screen: &[u8], list: &[u8], words: usize, room: usize) -> Res
     let parts = list.chunks_exact(form as usize);
     for (i, (command, part)) in commands.iter_mut().zip(parts).enumerate() {
         *command = Command::read(part, &screen).map_err(|number| (number, i as u64))?;
+        if command.clashes(screen.depth) {
+            return Err((29, i as u64));
+        }
         used += command.words(screen.depth);
         if used > words {
             return Err((15, i as u64));
@@ -428,8 +441,8 @@ impl Plan {
             let (operation, source, destination) = match c.operation {
                 FILL => (0xC, 0, first),
                 WRITE => (0, 0, first),
-                PATTERN => (6, c.pattern + c.phase, first),
-                KEYED => (7, c.pattern + c.phase, first),
+                PATTERN => (6, c.pattern, first),
+                KEYED => (7, c.pattern, first),
                 CLEAR => (5, first_source, first),
                 _ if first > first_source => (3, first_source + span, first + span),
                 _ => (2, first_source, first),
