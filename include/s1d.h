@@ -75,8 +75,8 @@ enum s1d_operation {
     S1D_MOVE = 1,               /* raster code, source */
     S1D_WRITE = 2,              /* raster code; takes host words */
     S1D_PATTERN_FILL = 3,       /* raster code, pattern x, y and address */
-    S1D_KEYED_PATTERN_FILL = 4, /* key colour, pattern x, y and address; pattern pixels of the key colour are left out */
-    S1D_TRANSPARENT_MOVE = 5    /* key colour, source; source pixels of the key colour are left out */
+    S1D_KEYED_PATTERN_FILL = 4, /* key colour, pattern x, y and address; pixels of the key colour are left out */
+    S1D_TRANSPARENT_MOVE = 5    /* key colour, source; pixels of the key colour are left out */
 };
 
 /* Byte 1 of a command. */
