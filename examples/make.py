@@ -1,7 +1,8 @@
 #!/usr/bin/env python3
 """Writes the example files beside it: a wear chart of 24 hourly columns, upright and turned, in grey and in colour, its list in both
-forms; one of 48 columns, and screen records that show the last 24 of them; hourly samples for the program `strip`; a screen of the
-older units; and damaged ones. The same list and words serve every rotation; only the screen record differs."""
+forms; one of 48 columns, and screen records that show the last 24 of them; one of 12 columns with hatching and see-through copies, in
+the long form, and screen records that show it without its last lines; hourly samples for the program `strip`; a screen of the older
+units; and damaged ones. The same list and words serve every rotation; only the screen record differs."""
 import struct
 from pathlib import Path
 
@@ -10,7 +11,7 @@ WIDTH, HEIGHT = 96, 64                       # the view, as a person sees it
 WIDE = 192                                   # the chart of two days; a view shows half of it
 WINDOW = (24, 11)                            # width and height of the small window, which holds the number
 PLACE = (8, 3)                               # its place in the view
-FILL, MOVE, WRITE = 0, 1, 2
+FILL, MOVE, WRITE, PATTERN_FILL, KEYED_PATTERN_FILL, TRANSPARENT_MOVE = range(6)
 MAIN, SMALL = 0, 1
 COPY = 0xC
 
@@ -18,6 +19,9 @@ COPY = 0xC
 WORN = [52, 60, 60, 58, 60, 60, 44, 12, 30, 48, 55, 60, 20, 0, 0, 15, 40, 52, 60, 57, 60, 60, 49, 54, 60]
 # in each of 48 hours: the first day with the brace, and the last 24 of those
 TWO_DAYS = [0, 0, 2, 4, 4, 6, 8, 10, 12, 12, 14, 16, 18, 20, 22, 24, 26, 28, 32, 34, 38, 42, 46, 50] + WORN[1:]
+
+# in each of 12 hours, of which the last is not over
+HALF_DAY = [44, 12, 30, 48, 55, 60, 20, 26, 15, 40, 52, 36]
 
 GREY = {'paper': 0xE8, 'line': 0x50, 'bar': 0x90, 'low': 0xC0, 'new': 0x30, 'ink': 0x00, 'box': 0xFF}
 COLOUR = {name: r >> 3 << 11 | g >> 2 << 5 | b >> 3 for name, (r, g, b) in {
@@ -50,6 +54,11 @@ def command(operation, surface, x, y, w, h, raster=0, source=(0, 0), colour=0):
 def long_form(commands):
     """The same list in records of 48 bytes: 16 zeros behind each of 32."""
     return b''.join(commands[at:at + 32] + bytes(16) for at in range(0, len(commands), 32))
+
+
+def long_command(*short, key=0, pattern=(0, 0, 0), **more):
+    """A command in 48 bytes; `pattern` is pattern x, pattern y and pattern address."""
+    return command(*short, **more) + struct.pack('<HBBI8x', key, *pattern)
 
 
 def words_of(rows, depth):
@@ -99,6 +108,49 @@ def chart(depth, c, worn, hours, width, left):
     return b''.join(commands), struct.pack(f'<{len(words)}H', *words)
 
 
+# The chart with hatching, at depth 16. Its image has lines below those that the panel shows: what is drawn with stands there.
+BELOW = 8
+KEY = 0xF81F                                                       # a colour that nothing else has
+POINTER = ['1111111', '1222221', '0122210', '0012100', '0001000']  # 0 is left out, 1 its edge, 2 its inside
+STRIPES = lambda column, row: (column + row) % 4 < 2               # an 8 by 8 pattern
+
+
+def hatched(c, worn):
+    """The long list and the host words of a chart of 12 hours. Hours with little wear are hatched, and what is behind shows through;
+    the newest hour, which is not over, is hatched in two colours; it and the hour with the least wear have a pointer above."""
+    left, step = 16, 6
+    at = lambda hour: left + step * hour
+    line = 2 * WIDTH                                               # bytes
+    # In the first line below stand the pixels of a pattern, row by row, as they do two lines on: both addresses are multiples of 128.
+    behind, solid = [line * y for y in (HEIGHT, HEIGHT + 2)]
+    stripes = lambda ink, between: [[ink if STRIPES(i % 8, i // 8) else between for i in range(64)]]
+    pointer = [[(KEY, c['ink'], c['new'])[int(bit)] for bit in row] for row in POINTER]
+    place = 64, HEIGHT                                             # right of the patterns
+    w, h = WINDOW
+    number = glyphs(str(sum(worn) // 60) + 'h', c['ink'], c['box'])
+    loads = [(MAIN, 0, HEIGHT, stripes(c['low'], KEY)), (MAIN, 0, HEIGHT + 2, stripes(c['new'], c['bar'])), (MAIN, *place, pointer),
+             (SMALL, 3, 2, number)]
+    commands = [long_command(FILL, MAIN, 0, 0, WIDTH, HEIGHT, colour=c['paper']), long_command(FILL, SMALL, 0, 0, w, h, colour=c['box'])]
+    commands += [long_command(WRITE, surface, x, y, len(rows[0]), len(rows), raster=COPY) for surface, x, y, rows in loads]
+    commands += [long_command(FILL, MAIN, left - 3, y, step * 12 + 4, 1, colour=c['line']) for y in (56, 46, 36, 26)]
+    commands += [long_command(FILL, MAIN, left - 3, 15, 1, 42, colour=c['line'])]
+    def bar(hour, minutes):
+        height = 1 + minutes * 2 // 3
+        x, y = at(hour), 56 - height
+        box = MAIN, x, y, step - 1, height
+        if hour == 11:
+            return long_command(PATTERN_FILL, *box, raster=COPY, pattern=(x % 8, y % 8, solid))
+        if minutes < 30:
+            return long_command(KEYED_PATTERN_FILL, *box, key=KEY, pattern=(x % 8, y % 8, behind))
+        return long_command(FILL, *box, colour=c['bar'])
+    commands += [bar(hour, minutes) for hour, minutes in enumerate(worn)]
+    for hour in 11, worn.index(min(worn)):
+        y = 54 - worn[hour] * 2 // 3 - len(POINTER)
+        commands += [long_command(TRANSPARENT_MOVE, MAIN, at(hour) - 1, y, 7, len(POINTER), source=place, key=KEY)]
+    words = [word for _, _, _, rows in loads for word in words_of(rows, 16)]
+    return b''.join(commands), struct.pack(f'<{len(words)}H', *words)
+
+
 def write(name, data):
     (HERE / name).write_bytes(data)
 
@@ -124,6 +176,13 @@ half = dict(place=(72, 20), whole=WIDE, first=WIDE - WIDTH, line=WIDE)
 part = screen(16, 0, WIDTH, HEIGHT, **half)
 write('part.screen', part)
 write('part-90.screen', screen(16, 1, HEIGHT, WIDTH, **half))
+hatch_list, hatch_words = hatched(COLOUR, HALF_DAY)
+write('hatched.list', hatch_list)
+write('hatched.words', hatch_words)
+hatch_bases = 0, WIDTH * (HEIGHT + BELOW) * 2
+write('hatched.screen', record(16, 0, (WIDTH, HEIGHT + BELOW), hatch_bases, PLACE, WINDOW))
+write('hatched-part.screen', record(16, 0, (WIDTH, HEIGHT), hatch_bases, PLACE, WINDOW))
+write('hatched-part-90.screen', record(16, 1, (HEIGHT, WIDTH), hatch_bases, PLACE, WINDOW))
 write('older.screen', record(4, 1, (320, 240), (0, 0x9600), (64, 80), (120, 160)))   # 001's example 6, for the S1D13706
 
 # 29 hours of samples: five hours without one, the numbers coming round past 65,535; and four lines that are left out
@@ -144,6 +203,10 @@ at = 7 * 32 + 10                                                   # command 7, 
 write('damaged.list', commands[:at] + struct.pack('<H', 60) + commands[at + 2:])     # past the view's last line: refused 14 7
 at = 2 * 48 + 47                                                   # command 2 in the long form: its last byte
 write('damaged-long.list', long_form(commands)[:at] + b'\1' + long_form(commands)[at + 1:])     # not zero: refused 12 2
+at = next(at for at in range(0, len(hatch_list), 48) if hatch_list[at] == KEYED_PATTERN_FILL)
+x, y = struct.unpack_from('<HH', hatch_list, at + 4)
+inside = -(-2 * (WIDTH * y + x) // 128) * 128 - 128                # the last pattern address up to its first pixel
+write('damaged-hatched.list', hatch_list[:at + 36] + struct.pack('<I', inside) + hatch_list[at + 40:])    # a pattern in its own bar: refused 29
 write('damaged.words', words[:-2])                                 # one word short: refused 15 at the last write
 write('odd.words', words[:-1])                                     # half a word: a message, and no output
 write('damaged-length.screen', part[:24] + struct.pack('<H', WIDE - 1) + part[26:])  # a line that is no multiple of 2: refused 26

@@ -49,19 +49,34 @@ extern "C" {
 #define S1D_STREAM_LENGTH(commands, words) \
     (S1D_STREAM_RECORD_LENGTH * (6 + 9 * (size_t)(commands) + (size_t)(words)))
 
-/* The form of a list, which the caller names: the bytes of each of its commands. A long command begins
- * with the bytes of a short one; behind them are 32-33 key colour, 34 and 35 pattern x and y, 36-39
- * pattern address, and zeros. No operation uses them yet: all of them are zero. */
+/* Bytes of a pattern at a depth, 8 or 16, and what its address is a multiple of. */
+#define S1D_PATTERN_LENGTH(depth) (8 * (depth))
+
+/* The form of a list, which the caller names: the bytes of each of its commands. A short command, numbers
+ * with the low byte first: 0 operation; 1 surface; 2 raster code; 4-5 x; 6-7 y; 8-9 width; 10-11 height;
+ * 12-13 source x; 14-15 source y; 16-17 colour. A long command begins with these 32 bytes; behind them are
+ * 32-33 key colour; 34 pattern x; 35 pattern y; 36-39 pattern address. All other bytes are zero, and so is
+ * each field that the operation does not name. */
 enum s1d_form {
     S1D_SHORT_FORM = 32,
     S1D_LONG_FORM = 48
 };
 
-/* Byte 0 of a command. */
+/* Byte 0 of a command, and the fields that it uses besides surface, x, y, width and height. Those above 2
+ * are of the long form alone.
+ *
+ * A pattern is 8 rows of 8 pixels, one behind the other from the pattern address on: a multiple of 64 at
+ * depth 8 and of 128 at depth 16, inside memory. Pattern x and y, 0 to 7, name its pixel in the upper left
+ * corner of the rectangle, and it repeats both ways. It may share no byte with the rectangle (29). A
+ * transparent move goes in positive direction only: where source and rectangle share a byte, the
+ * rectangle's address may not be greater (29). */
 enum s1d_operation {
-    S1D_FILL = 0,
-    S1D_MOVE = 1,
-    S1D_WRITE = 2
+    S1D_FILL = 0,               /* colour */
+    S1D_MOVE = 1,               /* raster code, source */
+    S1D_WRITE = 2,              /* raster code; takes host words */
+    S1D_PATTERN_FILL = 3,       /* raster code, pattern x, y and address */
+    S1D_KEYED_PATTERN_FILL = 4, /* key colour, pattern x, y and address; pixels of the key colour are left out */
+    S1D_TRANSPARENT_MOVE = 5    /* key colour, source; pixels of the key colour are left out */
 };
 
 /* Byte 1 of a command. */
@@ -70,7 +85,8 @@ enum s1d_surface {
     S1D_WINDOW = 1
 };
 
-/* Byte 2 of a move or a write: bit 2s + d is the result of source bit s and destination bit d. */
+/* Byte 2 of a move, a write or a pattern fill: bit 2s + d is the result of source or pattern bit s and
+ * destination bit d. */
 enum s1d_raster {
     S1D_XOR = 0x6,
     S1D_AND = 0x8,
@@ -84,13 +100,13 @@ enum s1d_raster {
  * 28-31 are zero, and with flag 0 bytes 12-23 and 26-27.
  *
  * Refusals. The first whose text holds is given, in the order of the numbers, but that 26 is checked
- * after 5 for main and after 8 for the window, and that commands (12 to 15) and stream records (20 to
- * 23) are checked one after another; s1d_read_point, s1d_draw, s1d_feed, s1d_end, s1d_wear_strip,
+ * after 5 for main and after 8 for the window, and that commands (12, 13, 14, 29, 15) and stream records
+ * (20 to 23) are checked one after another; s1d_read_point, s1d_draw, s1d_feed, s1d_end, s1d_wear_strip,
  * s1d_to_long and s1d_to_short name their own order. 7 to 9, and 26 for the window, apply with flag 1
  * only. The functions of the S1D13706 ask 6, 9 and 18 with 81920, 25 with 20479, and give 11 for any
  * list that is not empty.
  *
- * place is the command's index for 12 to 15, the stream record's for 20 to 23, else 0. Both count
+ * place is the command's index for 12 to 15 and 29, the stream record's for 20 to 23, else 0. Both count
  * from 0. */
 enum s1d_refusal {
     S1D_ACCEPTED = 0,           /* none: accepted */
@@ -105,10 +121,12 @@ enum s1d_refusal {
     S1D_WINDOW_IMAGE = 9,       /* as 6, for the window */
     S1D_LIST_FORM = 10,         /* form not 32 or 48, list not a multiple of so many bytes, or over 64 commands */
     S1D_LIST_DEPTH = 11,        /* a command is present and depth is below 8 */
-    S1D_COMMAND_FORM = 12,      /* operation above 2, no such surface, raster code above 15, colour above 255 at
-                                   depth 8, or a byte that must be zero is not */
+    S1D_COMMAND_FORM = 12,      /* operation above 2 (long form: 5), no such surface, raster code above 15, colour
+                                   or key colour above 255 at depth 8, pattern x or y above 7, pattern address
+                                   not a multiple of 64 (depth 16: 128) or not inside memory, or a byte that
+                                   must be zero is not */
     S1D_RECTANGLE_EMPTY = 13,   /* rectangle width or height 0 */
-    S1D_RECTANGLE_OUTSIDE = 14, /* destination, or a move's source, not inside the surface */
+    S1D_RECTANGLE_OUTSIDE = 14, /* destination, or the source of a move or transparent move, not inside the surface */
     S1D_WORDS_MISSING = 15,     /* too few host words for this and the earlier writes */
     S1D_WORDS_LEFT = 16,        /* host words left over at the end */
     S1D_STREAM_ROOM = 17,       /* stream buffer shorter than the stream; a wear strip's list or word buffer, or a
@@ -129,6 +147,8 @@ enum s1d_refusal {
                                    factory font under 80 bytes, a command's x or y past 65535; a digit above 9 */
     S1D_NOT_SHORT = 28,         /* a command has no short form: its operation is above 2, or a byte past 31 is
                                    not zero */
+    S1D_SHARED_BYTE = 29,       /* a pattern shares a byte with the destination; or the source of a transparent move
+                                   does, and the destination address is greater */
     S1D_BLOCK_FORM = 32         /* block over 64 bytes */
 };
 
@@ -139,8 +159,8 @@ typedef struct s1d_compiled {
     uint32_t depth;       /* bits of a pixel: 1, 2, 4, 8 or 16 */
     uint32_t rotation;    /* 0 to 3 for 0, 90, 180, 270 degrees counter-clockwise */
     uint32_t flag;        /* 1 with the small window, else 0 */
-    uint64_t part_at;     /* 12 to 15: where the refused command begins in the list; else 0 */
-    uint64_t part_length; /* 12 to 15: its 32 or 48 bytes; else 0 */
+    uint64_t part_at;     /* 12 to 15 and 29: where the refused command begins in the list; else 0 */
+    uint64_t part_length; /* 12 to 15 and 29: its 32 or 48 bytes; else 0 */
 } s1d_compiled;
 
 typedef struct s1d_list {
@@ -163,7 +183,7 @@ typedef struct s1d_registers {
     uint32_t offset;      /* 8014h */
     uint32_t width;       /* 8018h */
     uint32_t height;      /* 801Ch */
-    uint32_t background;  /* 8020h */
+    uint32_t background;  /* 8020h: the key colour */
     uint32_t foreground;  /* 8024h */
 } s1d_registers;
 
@@ -231,7 +251,7 @@ typedef struct s1d_glyph {
 /* Compiles a screen record and a list of commands, in a form of s1d_form, into a stream. words are the
  * pixels of the writes, in order. The answer has the stream's length and the depth, rotation and flag
  * for the settings register; bytes past the stream keep their contents. S1D_STREAM_LENGTH of the list's
- * commands and of words_length is room enough. Refusals 1 to 17, and 26. */
+ * commands and of words_length is room enough. Refusals 1 to 17, 26 and 29. */
 s1d_compiled s1d_compile(uint32_t form,
                          const uint8_t *screen, size_t screen_length,
                          const uint8_t *list, size_t list_length,
@@ -239,7 +259,10 @@ s1d_compiled s1d_compile(uint32_t form,
                          uint8_t *stream, size_t stream_length);
 
 /* Plays a stream over the display memory, all registers beginning at 0. stream_length is the length
- * that s1d_compile gave, not the buffer's. The answer has the last six screen values.
+ * that s1d_compile gave, not the buffer's. A stream that no compiling made may start the operations 0 write,
+ * 2 and 3 move, 5 transparent move, 6 and 7 pattern fill, with raster code and with key colour, and Ch fill;
+ * any other is 21. Transparent moves read what they have stored, and patterns are read before the first
+ * pixel, whatever is shared. The answer has the last six screen values.
  * Refusals 18 to 23. */
 s1d_played s1d_play(const uint8_t *stream, size_t stream_length,
                     uint8_t *memory, size_t memory_length);

@@ -21,6 +21,9 @@ const MOST_LINE: u64 = 1023;
 /// Most host words of a list that is made here.
 const MOST_WORDS: u64 = 200_000;
 
+/// The bytes of pictures that a key colour is to be found in.
+pub const POOR: [u8; 2] = [0, 0x5A];
+
 /// Longest stream buffer of a list that is made here.
 pub const MOST_ROOM: usize = 48 + 72 * 64 + 8 * MOST_WORDS as usize + 100;
 
@@ -133,6 +136,8 @@ const SCREEN_FIELDS: [(usize, usize); 13] = [
 ];
 const COMMAND_FIELDS: [(usize, usize); 10] =
     [(0, 1), (1, 1), (2, 1), (4, 2), (6, 2), (8, 2), (10, 2), (12, 2), (14, 2), (16, 2)];
+/// Those of a long record past byte 31.
+const FURTHER_FIELDS: [(usize, usize); 4] = [(32, 2), (34, 1), (35, 1), (36, 4)];
 
 /// Numbers that are no form of a list, and must be seen.
 pub const NO_FORMS: [u32; 7] = [0, 31, 33, 47, 49, 96, u32::MAX];
@@ -244,9 +249,52 @@ fn screen_of(
     record
 }
 
-/// A command, in the short form, that is accepted on a screen of depth 8 or 16, and the host words that
-/// it takes, at most `words`.
-fn command(rng: &mut Rng, screen: &[u8], words: u64) -> (Vec<u8>, u64) {
+/// The lines of a rectangle in memory: first byte, bytes from line to line, bytes of each, and how many.
+#[derive(Clone, Copy)]
+struct Lines {
+    first: u64,
+    line: u64,
+    bytes: u64,
+    count: u64,
+}
+
+impl Lines {
+    /// Whether some bytes have one of theirs.
+    fn share(&self, at: u64, size: u64) -> bool {
+        let line = |j: u64| self.first + j * self.line;
+        (0..self.count).any(|j| line(j) < at + size && at < line(j) + self.bytes)
+    }
+}
+
+/// The address of a pattern of so many bytes for a rectangle: any, or in or around its lines; mostly with
+/// none of their bytes.
+fn pattern(rng: &mut Rng, size: u64, lines: &Lines) -> u64 {
+    let most = MEMORY / size - 1;
+    let mut at = 0;
+    for _ in 0..8 {
+        let near = lines.first + lines.line * rng.below(lines.count) + rng.pick(&[0, lines.bytes]);
+        at = match rng.below(6) {
+            0 => most,
+            1 | 2 => rng.offset(most),
+            _ => ((near + rng.below(5) * size) / size).saturating_sub(2).min(most),
+        } * size;
+        if !lines.share(at, size) || rng.one_in(32) {
+            break;
+        }
+    }
+    at
+}
+
+/// A colour, often one of `POOR` bytes.
+fn colour(rng: &mut Rng, depth: u64) -> u64 {
+    let poor = u16::from_le_bytes([rng.pick(&POOR), rng.pick(&POOR)]).into();
+    let colour = if rng.one_in(3) { rng.any() } else { poor };
+    colour & if depth == 8 { 0xFF } else { 0xFFFF }
+}
+
+/// A command in a form that is mostly accepted on a screen of depth 8 or 16, and the host words that it
+/// takes, at most `words`.
+fn command(rng: &mut Rng, form: u32, screen: &[u8], words: u64) -> (Vec<u8>, u64) {
     let depth = u64::from(screen[0]);
     let on_window = screen[2] == 1 && rng.one_in(2);
     let (mut across, mut down) = if on_window {
@@ -258,37 +306,60 @@ fn command(rng: &mut Rng, screen: &[u8], words: u64) -> (Vec<u8>, u64) {
         (across, down) = (down, across);
     }
     let (width, height) = (rng.size(across), rng.size(down));
-    let (x, y) = (rng.offset(across - width), rng.offset(down - height));
+    let (mut x, mut y) = (rng.offset(across - width), rng.offset(down - height));
     let taken = (width * depth / 8).div_ceil(2) * height;
-    let operation = match rng.below(4) {
+    let operation = match rng.below(if form == 48 { 10 } else { 4 }) {
         0 => 0,
         3 if taken <= words => 2,
-        _ => 1,
+        1..=3 => 1,
+        4 | 5 => 3,
+        6 | 7 => 4,
+        _ => 5,
     };
-    let mut part = vec![0; 32];
+    let mut part = vec![0; form as usize];
     part[0] = operation;
     part[1] = on_window.into();
+    if matches!(operation, 1..=3) {
+        part[2] = if rng.one_in(2) { 12 } else { rng.below(16) as u8 };
+    }
+    if matches!(operation, 1 | 5) {
+        // Near the destination, or anywhere.
+        let mut place = |at: u64, most: u64| match rng.below(3) {
+            0 => rng.offset(most),
+            _ => (at + rng.below(7)).saturating_sub(3).min(most),
+        };
+        let (mut sx, mut sy) = (place(x, across - width), place(y, down - height));
+        // The transparent move goes up; now and then it has no way.
+        if operation == 5 && (y, x) > (sy, sx) && !rng.one_in(8) {
+            (x, y, sx, sy) = (sx, sy, x, y);
+        }
+        set(&mut part, 12, 2, sx);
+        set(&mut part, 14, 2, sy);
+    }
     for (at, value) in [(4, x), (6, y), (8, width), (10, height)] {
         set(&mut part, at, 2, value);
     }
-    if operation != 0 {
-        part[2] = if rng.one_in(2) { 12 } else { rng.below(16) as u8 };
-    }
     match operation {
-        0 => set(&mut part, 16, 2, rng.any() >> if depth == 8 { 56 } else { 48 }),
-        1 => {
-            // Near the destination, or anywhere.
-            let mut place = |at: u64, most: u64| match rng.below(3) {
-                0 => rng.offset(most),
-                _ => (at + rng.below(7)).saturating_sub(3).min(most),
+        0 => set(&mut part, 16, 2, colour(rng, depth)),
+        3 | 4 => {
+            let (base, length) = if on_window { (12, 26) } else { (8, 24) };
+            let length = match field(screen, length, 2) {
+                0 => across,
+                given => given,
             };
-            let source = (place(x, across - width), place(y, down - height));
-            set(&mut part, 12, 2, source.0);
-            set(&mut part, 14, 2, source.1);
+            let line = length * depth / 8;
+            let first = field(screen, base, 4) + y * line + x * depth / 8;
+            let lines = Lines { first, line, bytes: width * depth / 8, count: height };
+            part[34] = rng.below(8) as u8;
+            part[35] = rng.below(8) as u8;
+            set(&mut part, 36, 4, pattern(rng, 8 * depth, &lines));
         }
-        _ => return (part, taken),
+        _ => {}
     }
-    (part, 0)
+    if operation > 3 {
+        set(&mut part, 32, 2, colour(rng, depth));
+    }
+    (part, if operation == 2 { taken } else { 0 })
 }
 
 /// A form of a list.
@@ -343,8 +414,7 @@ pub fn accepted_in(rng: &mut Rng, form: u32) -> Drawing {
     let most = if rng.one_in(50) { MOST_WORDS } else { 20_000 };
     let (mut list, mut taken) = (Vec::new(), 0);
     for _ in 0..count {
-        let (mut part, words) = command(rng, &screen, most - taken);
-        part.resize(form as usize, 0);
+        let (part, words) = command(rng, form, &screen, most - taken);
         list.extend(part);
         taken += words;
     }
@@ -372,8 +442,44 @@ fn damage_command(rng: &mut Rng, part: &mut [u8]) {
     match rng.below(8) {
         0 => part[rng.below(part.len() as u64) as usize] = rng.any() as u8,
         1 => part[0] = operation_above(rng),
-        2..=4 if part.len() > 32 => damage_past(rng, part),
+        2..=4 if part.len() > 32 && part[0] <= 2 => damage_past(rng, part),
+        2..=5 if part.len() > 32 && part[0] <= 5 => damage_new(rng, part),
         _ => nudge(rng, part, &COMMAND_FIELDS),
+    }
+}
+
+/// Changes a field of a long command with operation 3 to 5.
+fn damage_new(rng: &mut Rng, part: &mut [u8]) {
+    let (byte, number) = (rng.pick(&[1, 7, 8, 12, 16, 128, 255]), rng.pick(&[1, 255, 256, 0x5A5A]));
+    match rng.below(12) {
+        0 => part[2] = byte,
+        1 => set(part, rng.pick(&[12, 14]), 2, number),
+        2 => set(part, 16, 2, number),
+        3 => set(part, 32, 2, number),
+        9 => set(part, 32, 2, rng.pick(&[256, 511, 0x5A5A])),
+        10 => set(part, rng.pick(&[8, 10]), 2, 0),
+        4 => part[34] = byte,
+        5 => part[35] = byte,
+        6 => set(part, 36, 4, field(part, 36, 4) ^ 1 << rng.below(7)),
+        7 => {
+            let past = [MEMORY - 64, MEMORY, MEMORY + 64, MEMORY + 128, 1 << 31, 0xFFFF_FF80];
+            set(part, 36, 4, rng.pick(&past));
+        }
+        8 => part[rng.between(40, 47) as usize] = byte,
+        _ => nudge(rng, part, &FURTHER_FIELDS),
+    }
+}
+
+/// Makes an operation of a short list one of the long form's, with zeros where that has no field.
+pub fn make_new(rng: &mut Rng, list: &mut [u8]) {
+    let Some(part) = list.chunks_exact_mut(32).last() else { return };
+    part[0] = rng.pick(&[3, 4, 5]);
+    part[16..18].fill(0);
+    if part[0] != 5 {
+        part[12..16].fill(0);
+    }
+    if part[0] != 3 {
+        part[2] = 0;
     }
 }
 
@@ -509,11 +615,7 @@ fn older_list(rng: &mut Rng, form: u32, screen: &[u8]) -> Vec<u8> {
         }
         1 => vec![0; rng.pick(&[65 * size, 65 * size + 1, 128 * size])],
         2 => vec![0; size * rng.size(64) as usize],
-        _ => {
-            let mut list = command(rng, screen, 0).0;
-            list.resize(size, 0);
-            list
-        }
+        _ => command(rng, form, screen, 0).0,
     }
 }
 
@@ -602,7 +704,7 @@ pub fn foreign(rng: &mut Rng) -> Vec<u8> {
     for _ in 0..rng.below(5) {
         let operation = match rng.below(48) {
             0 => rng.below(16),
-            _ => rng.pick(&[0, 0, 2, 2, 3, 3, 12]),
+            _ => rng.pick(&[0, 0, 2, 2, 3, 3, 5, 5, 6, 7, 12]),
         };
         let pixel = rng.between(1, 2);
         let most = if rng.one_in(16) { 1024 } else { 48 };
@@ -618,6 +720,7 @@ pub fn foreign(rng: &mut Rng) -> Vec<u8> {
         let destination = address(rng, reach, pixel, backward);
         let source = match rng.below(4) {
             _ if operation == 0 => u64::from(rng.one_in(64)),
+            0 | 1 if matches!(operation, 6 | 7) => rng.below(MEMORY / pixel) * pixel,
             0 => address(rng, reach, pixel, backward),
             1 => (destination + rng.below(9) * 2 * offset).saturating_sub(8 * offset),
             _ => (destination + rng.below(17) * pixel).saturating_sub(8 * pixel),
@@ -634,8 +737,10 @@ pub fn foreign(rng: &mut Rng) -> Vec<u8> {
             (0x801C, height - 1),
             (0x8024, rng.below(0x1_0000)),
         ];
-        if rng.one_in(4) {
-            setup.push((0x8020, rng.below(0x1_0000)));
+        if matches!(operation, 5 | 7) || rng.one_in(4) {
+            // At depth 8 the high byte is any.
+            let high = if pixel == 1 { rng.any() << 8 } else { 0 };
+            setup.push((0x8020, (colour(rng, 8 * pixel) | high) & 0xFFFF));
         }
         if rng.one_in(4) {
             setup.push((0x8000, rng.pick(&[0, 0x4_0000])));
@@ -719,7 +824,7 @@ pub fn player(rng: &mut Rng) -> (Player, Vec<u8>) {
     // Often a small blit at either end of the memory; bits outside the fields are any.
     if rng.one_in(2) {
         player.registers[6] = rng.any() as u32;
-        player.registers[7] = rng.any() as u32 & !0xF | rng.pick(&[0, 2, 3, 12]);
+        player.registers[7] = rng.any() as u32 & !0xF | rng.pick(&[0, 2, 3, 5, 6, 7, 12]);
         player.registers[8] = (rng.any() << 18) as u32;
         player.registers[9] =
             (rng.any() << 18) as u32 + rng.pick(&[0, MEMORY - 6]) as u32 + rng.below(6) as u32;

@@ -1,5 +1,6 @@
 //! Paper 01 three times over, with the line lengths of paper 02's request c), the places of its request
-//! e) and the two forms of a list of its request g), and the proved library beside it.
+//! e), the two forms of a list of its request g) and the operations of its request h), and the proved library
+//! beside it.
 //!
 //! - `reference`: compiling, playing and the point reader, written for speed; what the library is
 //!   compared with and timed against.
@@ -9,7 +10,7 @@
 //! - `chart`: the same from the list of accepted samples, command by command and pixel by pixel.
 //! - `forms`: turning a list into its other form, request g), to the same ends as `reference`.
 //! - `records`: the same record by record and field by field, and what a list in either form compiles to,
-//!   told by short ones.
+//!   told by short ones, by the fields of the long form's own operations and by the bytes that they share.
 //! - `sheet`: the plain sheet, pixel by pixel from the commands, with no register or direction.
 //! - `literal`: an accepted stream played one pixel at a time, in the direction named.
 //! - `unit`: the library, where build.rs found it.

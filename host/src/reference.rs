@@ -1,4 +1,4 @@
-//! Paper 01 with requests c), e) and g) of paper 02, in plain Rust: compiling, playing, the point reader.
+//! Paper 01 with requests c), e), g) and h) of paper 02, in plain Rust: compiling, playing, the point reader.
 //! Playing in blocks is in `serial`, the older chip in `older`, turning a list in `forms`; the screen and
 //! the point are read here for a memory of any size.
 //!
@@ -222,11 +222,23 @@ struct Command {
     source_x: u32,
     source_y: u32,
     colour: u32,
+    key: u32,
+    /// The address of the pattern's first pixel.
+    pattern: u32,
 }
 
 const FILL: u8 = 0;
 const MOVE: u8 = 1;
 const WRITE: u8 = 2;
+/// Pattern fills with raster code and with key colour, and the transparent move: in the long form alone.
+const PATTERN: u8 = 3;
+const KEYED: u8 = 4;
+const CLEAR: u8 = 5;
+
+/// Bytes of a pattern, eight lines of eight pixels.
+const fn pattern_size(depth: u32) -> u32 {
+    8 * depth
+}
 
 impl Command {
     /// A command of the list, in either form, or refusal 12 to 14.
@@ -234,19 +246,27 @@ impl Command {
         let (operation, surface, code) = (part[0], part[1], part[2]);
         let source_zero = all_zero(&part[12..16]);
         let colour = u16_at(part, 16);
-        let unused_zero = match operation {
-            FILL => code == 0 && source_zero,
-            MOVE => colour == 0,
-            WRITE => source_zero && colour == 0,
+        let past = part.get(32..48).map_or(0, |past| u128::from_le_bytes(past.try_into().unwrap()));
+        let mut further = Further::default();
+        let right = match operation {
+            FILL => code == 0 && source_zero && past == 0,
+            MOVE => colour == 0 && past == 0,
+            WRITE => source_zero && colour == 0 && past == 0,
+            PATTERN | KEYED | CLEAR if part.len() == LONG as usize => {
+                further = Further::read(part);
+                further.right(operation, code, screen.depth)
+                    && colour == 0
+                    && (operation == CLEAR || source_zero)
+                    && all_zero(&part[40..])
+            }
             _ => return Err(12),
         };
         if u32::from(surface) > screen.flag
             || code > 15
             || screen.depth == 8 && colour > 255
-            || !unused_zero
+            || !right
             || part[3] != 0
-            // To the record's end: bytes 32 to 47 are zero too.
-            || !all_zero(&part[18..])
+            || u128::from_le_bytes(part[16..32].try_into().unwrap()) >> 16 != 0
         {
             return Err(12);
         }
@@ -261,6 +281,8 @@ impl Command {
             source_x: u16_at(part, 12),
             source_y: u16_at(part, 14),
             colour,
+            key: further.key,
+            pattern: further.pattern + (8 * further.y + further.x) * screen.depth / 8,
         };
         let Command { image, x, y, width, height, source_x, source_y, .. } = command;
         if width == 0 || height == 0 {
@@ -273,12 +295,72 @@ impl Command {
         Ok(command)
     }
 
+    /// Whether refusal 29 holds.
+    fn clashes(&self, depth: u32) -> bool {
+        match self.operation {
+            PATTERN | KEYED => self.meets_pattern(depth),
+            CLEAR => self.meets_source() && (self.y, self.x) > (self.source_y, self.source_x),
+            _ => false,
+        }
+    }
+
+    /// Whether the pattern shares a byte with the destination: the first line that does not end before
+    /// the pattern begins before the pattern ends.
+    fn meets_pattern(&self, depth: u32) -> bool {
+        let size = pattern_size(depth);
+        let pattern = self.pattern / size * size;
+        let line = self.image.line(depth);
+        let first = self.image.address(depth, self.x, self.y);
+        let end = first + self.width * depth / 8;
+        let j = if end > pattern { 0 } else { (pattern - end) / line + 1 };
+        j < self.height && first + j * line < pattern + size
+    }
+
+    /// Whether source and destination share a byte, which pixels of one surface do where they are one.
+    fn meets_source(&self) -> bool {
+        self.x.abs_diff(self.source_x) < self.width && self.y.abs_diff(self.source_y) < self.height
+    }
+
     /// Host words that the command takes.
     fn words(&self, depth: u32) -> usize {
         match self.operation {
             WRITE => ((self.width * depth / 8).div_ceil(2) * self.height) as usize,
             _ => 0,
         }
+    }
+}
+
+/// What a long record has from byte 32 on, up to byte 39.
+#[derive(Clone, Copy, Default)]
+struct Further {
+    key: u32,
+    /// The pattern's first pixel, and its address.
+    x: u32,
+    y: u32,
+    pattern: u32,
+}
+
+impl Further {
+    fn read(part: &[u8]) -> Further {
+        let (x, y) = (part[34].into(), part[35].into());
+        Further { key: u16_at(part, 32), x, y, pattern: u32_at(part, 36) }
+    }
+
+    /// Whether an operation takes them with its raster code.
+    fn right(&self, operation: u8, code: u8, depth: u32) -> bool {
+        let has_key = depth == 16 || self.key <= 255;
+        match operation {
+            PATTERN => self.key == 0 && self.has_pattern(depth),
+            KEYED => code == 0 && has_key && self.has_pattern(depth),
+            _ => code == 0 && has_key && (self.x, self.y, self.pattern) == (0, 0, 0),
+        }
+    }
+
+    /// Whether there is such a pixel, and such a pattern in the memory.
+    fn has_pattern(&self, depth: u32) -> bool {
+        let size = pattern_size(depth);
+        let inside = u64::from(self.pattern) + u64::from(size) <= MEMORY as u64;
+        self.x < 8 && self.y < 8 && self.pattern % size == 0 && inside
     }
 }
 
@@ -303,7 +385,7 @@ pub(crate) fn count(form: u32, list: &[u8]) -> Result<usize, u32> {
     Ok(count)
 }
 
-/// The plan of a list, or refusal 1 to 17 or 26.
+/// The plan of a list, or refusal 1 to 17, 26 or 29.
 fn plan(form: u32, screen: &[u8], list: &[u8], words: usize, room: usize) -> Result<Plan, Refusal> {
     let whole = |number| (number, 0);
     let screen = Screen::read(screen, MEMORY).map_err(whole)?;
@@ -316,6 +398,9 @@ fn plan(form: u32, screen: &[u8], list: &[u8], words: usize, room: usize) -> Res
     let parts = list.chunks_exact(form as usize);
     for (i, (command, part)) in commands.iter_mut().zip(parts).enumerate() {
         *command = Command::read(part, &screen).map_err(|number| (number, i as u64))?;
+        if command.clashes(screen.depth) {
+            return Err((29, i as u64));
+        }
         used += command.words(screen.depth);
         if used > words {
             return Err((15, i as u64));
@@ -356,6 +441,9 @@ impl Plan {
             let (operation, source, destination) = match c.operation {
                 FILL => (0xC, 0, first),
                 WRITE => (0, 0, first),
+                PATTERN => (6, c.pattern, first),
+                KEYED => (7, c.pattern, first),
+                CLEAR => (5, first_source, first),
                 _ if first > first_source => (3, first_source + span, first + span),
                 _ => (2, first_source, first),
             };
@@ -365,7 +453,7 @@ impl Plan {
             put(0x8014, c.image.line(depth) / 2);
             put(0x8018, c.width - 1);
             put(0x801C, c.height - 1);
-            put(0x8020, 0);
+            put(0x8020, c.key);
             put(0x8024, c.colour);
             put(0x8000, 1 | u32::from(depth == 16) << 18);
             let (data, rest) = words.split_at(c.words(depth));
@@ -394,7 +482,7 @@ pub fn compile(
         Err((number, place)) => {
             let size = u64::from(form);
             let (part_at, part_length) =
-                if (12..=15).contains(&number) { (size * place, size) } else { (0, 0) };
+                if matches!(number, 12..=15 | 29) { (size * place, size) } else { (0, 0) };
             Compiled { number, place, part_at, part_length, ..Compiled::default() }
         }
     }
@@ -453,6 +541,10 @@ pub(crate) enum Kind {
     Forward,
     Backward,
     Write,
+    /// The transparent move, and pattern fills with raster code and with key colour.
+    Clear,
+    Pattern,
+    Keyed,
 }
 
 /// Room for a line's source: 1,024 pixels of two bytes.
@@ -471,6 +563,7 @@ pub(crate) struct Blit {
     pub line: usize,
     pub lines: usize,
     colour: u16,
+    key: u16,
 }
 
 impl Blit {
@@ -488,6 +581,7 @@ impl Blit {
             line: (register(11) + 1) * pixel,
             lines: register(12) + 1,
             colour: registers[14] as u16,
+            key: registers[13] as u16,
         }
     }
 
@@ -497,18 +591,22 @@ impl Blit {
             0 => Kind::Write,
             2 => Kind::Forward,
             3 => Kind::Backward,
+            5 => Kind::Clear,
+            6 => Kind::Pattern,
+            7 => Kind::Keyed,
             0xC => Kind::Fill,
             _ => return Err(21),
         };
         let blit = Blit::new(kind, registers, control);
         let Blit { source, destination, pixel, .. } = blit;
-        let moves = matches!(kind, Kind::Forward | Kind::Backward);
+        let moves = matches!(kind, Kind::Forward | Kind::Backward | Kind::Clear);
         if destination % pixel != 0
-            || moves && source % pixel != 0
+            || kind != Kind::Fill && source % pixel != 0
             || kind == Kind::Write && source != 0
         {
             return Err(21);
         }
+        // A pattern is inside: 800Ch has 18 bits, and the lowest are its first pixel.
         if !blit.inside(destination) || moves && !blit.inside(source) {
             return Err(22);
         }
@@ -542,7 +640,8 @@ impl Blit {
         match self.kind {
             Kind::Fill => self.fill(memory),
             Kind::Write => self.write(data, memory),
-            Kind::Forward | Kind::Backward => self.shift(memory),
+            Kind::Forward | Kind::Backward | Kind::Clear => self.shift(memory),
+            Kind::Pattern | Kind::Keyed => self.hatch(memory),
         }
     }
 
@@ -570,33 +669,70 @@ impl Blit {
         }
     }
 
+    /// A pattern fill. The pattern is read before the first pixel.
+    fn hatch(&self, memory: &mut [u8]) {
+        let tiles = self.tiles(memory);
+        for j in 0..self.lines {
+            let to = self.line_at(self.destination, j);
+            let line = &mut memory[to..to + self.line];
+            let (tile, kept) = &tiles[j % 8];
+            match self.kind {
+                Kind::Keyed => keep(line, tile, kept),
+                _ => combine(self.code, line, tile),
+            }
+        }
+    }
+
+    /// The lines of the pattern in the order of the rectangle's lines, each with all ones where it has the
+    /// key colour.
+    fn tiles(&self, memory: &[u8]) -> [(Tile, Tile); 8] {
+        let line = 8 * self.pixel;
+        let (base, first) = (self.source / (8 * line) * (8 * line), self.source / line);
+        let key = &self.key.to_le_bytes()[..self.pixel];
+        std::array::from_fn(|j| {
+            let row = &memory[base + (first + j) % 8 * line..][..line];
+            let tile: Tile = std::array::from_fn(|i| row[(self.source + i) % line]);
+            let kept = |i: usize| &tile[i / self.pixel * self.pixel..][..self.pixel] == key;
+            (tile, std::array::from_fn(|i| if kept(i) { 0xFF } else { 0 }))
+        })
+    }
+
     fn shift(&self, memory: &mut [u8]) {
         let mut source = LINE;
         for j in 0..self.lines {
             let to = self.line_at(self.destination, j);
             let from = self.line_at(self.source, j);
             let smears = match self.kind {
-                Kind::Forward => from < to && to < from + self.line,
-                _ => to < from && from < to + self.line,
+                Kind::Backward => to < from && from < to + self.line,
+                _ => from < to && to < from + self.line,
             };
             if smears {
                 self.smear(memory, from, to);
-            } else if self.code == 0xC {
+            } else if self.code == 0xC && self.kind != Kind::Clear {
                 memory.copy_within(from..from + self.line, to);
             } else {
                 source[..self.line].copy_from_slice(&memory[from..from + self.line]);
-                combine(self.code, &mut memory[to..to + self.line], &source[..self.line]);
+                self.mix(&mut memory[to..to + self.line], &source[..self.line]);
             }
+        }
+    }
+
+    /// Some of a move's pixels from their source.
+    #[inline(always)]
+    fn mix(&self, line: &mut [u8], source: &[u8]) {
+        match self.kind {
+            Kind::Clear => store_but(self.key, self.pixel, line, source),
+            _ => combine(self.code, line, source),
         }
     }
 
     /// A line whose later pixels read what the earlier ones wrote.
     fn smear(&self, memory: &mut [u8], from: usize, to: usize) {
         let mut pixel = |at: usize| {
-            for i in at..at + self.pixel {
-                let source = [memory[from + i]];
-                combine(self.code, &mut memory[to + i..to + i + 1], &source);
-            }
+            let mut source = [0; 2];
+            let source = &mut source[..self.pixel];
+            source.copy_from_slice(&memory[from + at..][..self.pixel]);
+            self.mix(&mut memory[to + at..][..self.pixel], source);
         };
         let offsets = (0..self.line).step_by(self.pixel);
         match self.kind {
@@ -606,33 +742,82 @@ impl Blit {
     }
 }
 
+/// Source bytes of a line: as many as it has, or those of a pattern's line, over and over.
+pub(crate) trait Source {
+    fn each(self, line: &mut [u8], mix: impl Fn(u8, u8) -> u8);
+}
+
+impl Source for &[u8] {
+    #[inline(always)]
+    fn each(self, line: &mut [u8], mix: impl Fn(u8, u8) -> u8) {
+        for (d, &s) in line.iter_mut().zip(self) {
+            *d = mix(s, *d);
+        }
+    }
+}
+
+/// A pattern's line from its first pixel on: at depth 8 twice, at depth 16 once.
+type Tile = [u8; 16];
+
+impl Source for &Tile {
+    #[inline(always)]
+    fn each(self, line: &mut [u8], mix: impl Fn(u8, u8) -> u8) {
+        let mut chunks = line.chunks_exact_mut(size_of::<Tile>());
+        for chunk in &mut chunks {
+            self[..].each(chunk, &mix);
+        }
+        self[..].each(chunks.into_remainder(), mix);
+    }
+}
+
 /// Combines a line with its source under a raster code (002, table 9-2). A code works bit by bit, so
 /// bytes do at both depths.
 #[inline]
-pub(crate) fn combine(code: u32, line: &mut [u8], source: &[u8]) {
-    #[inline(always)]
-    fn each(line: &mut [u8], source: &[u8], raster: impl Fn(u8, u8) -> u8) {
-        for (d, &s) in line.iter_mut().zip(source) {
-            *d = raster(s, *d);
-        }
-    }
+pub(crate) fn combine(code: u32, line: &mut [u8], source: impl Source) {
     match code {
         0 => line.fill(0),
-        1 => each(line, source, |s, d| !(s | d)),
-        2 => each(line, source, |s, d| !s & d),
-        3 => each(line, source, |s, _| !s),
-        4 => each(line, source, |s, d| s & !d),
-        5 => each(line, source, |_, d| !d),
-        6 => each(line, source, |s, d| s ^ d),
-        7 => each(line, source, |s, d| !(s & d)),
-        8 => each(line, source, |s, d| s & d),
-        9 => each(line, source, |s, d| !(s ^ d)),
+        1 => source.each(line, |s, d| !(s | d)),
+        2 => source.each(line, |s, d| !s & d),
+        3 => source.each(line, |s, _| !s),
+        4 => source.each(line, |s, d| s & !d),
+        5 => source.each(line, |_, d| !d),
+        6 => source.each(line, |s, d| s ^ d),
+        7 => source.each(line, |s, d| !(s & d)),
+        8 => source.each(line, |s, d| s & d),
+        9 => source.each(line, |s, d| !(s ^ d)),
         10 => {}
-        11 => each(line, source, |s, d| !s | d),
-        12 => line.copy_from_slice(source),
-        13 => each(line, source, |s, d| s | !d),
-        14 => each(line, source, |s, d| s | d),
+        11 => source.each(line, |s, d| !s | d),
+        12 => source.each(line, |s, _| s),
+        13 => source.each(line, |s, d| s | !d),
+        14 => source.each(line, |s, d| s | d),
         _ => line.fill(0xFF),
+    }
+}
+
+/// Stores a tile over and over, but for its bytes that are kept.
+#[inline(always)]
+fn keep(line: &mut [u8], tile: &Tile, kept: &Tile) {
+    let each = |line: &mut [u8]| {
+        for (d, (s, kept)) in line.iter_mut().zip(tile.iter().zip(kept)) {
+            *d = *d & kept | s & !kept;
+        }
+    };
+    let mut chunks = line.chunks_exact_mut(size_of::<Tile>());
+    chunks.by_ref().for_each(each);
+    each(chunks.into_remainder());
+}
+
+/// Stores the source's pixels but those of the key colour, of which a pixel's bytes count.
+#[inline(always)]
+fn store_but(key: u16, pixel: usize, line: &mut [u8], source: &[u8]) {
+    if pixel == 1 {
+        source.each(line, |s, d| if s == key as u8 { d } else { s });
+    } else {
+        let key = key.to_le_bytes();
+        for (d, s) in line.chunks_exact_mut(2).zip(source.chunks_exact(2)) {
+            let kept = [d[0], d[1]];
+            d.copy_from_slice(if s == key { &kept } else { s });
+        }
     }
 }
 

@@ -1,5 +1,5 @@
-//! The plain sheet of paper 01, with the line lengths of paper 02's request c) and the places of its
-//! request e), from the records themselves. It is fed accepted input only.
+//! The plain sheet of paper 01, with the line lengths of paper 02's request c), the places of its request
+//! e) and the operations of its request h), from the records themselves. It is fed accepted input only.
 
 fn number(bytes: &[u8], at: usize) -> usize {
     usize::from(bytes[at]) + 256 * usize::from(bytes[at + 1])
@@ -39,8 +39,7 @@ impl Surface {
     fn pixel(&self, bytes: &[u8], x: usize, y: usize) -> u32 {
         let at = self.address(x, y);
         match self.depth {
-            16 => u32::from(bytes[at]) + 256 * u32::from(bytes[at + 1]),
-            8 => bytes[at].into(),
+            depth @ (8 | 16) => whole_pixel(bytes, depth, at),
             depth => {
                 let right = 8 / depth - 1 - x % (8 / depth);
                 u32::from(bytes[at]) / 2u32.pow((right * depth) as u32) % 2u32.pow(depth as u32)
@@ -67,6 +66,32 @@ impl Surface {
     }
 }
 
+/// The pixel at an address, at depth 8 or 16.
+fn whole_pixel(bytes: &[u8], depth: usize, at: usize) -> u32 {
+    match depth {
+        16 => u32::from(bytes[at]) + 256 * u32::from(bytes[at + 1]),
+        _ => bytes[at].into(),
+    }
+}
+
+/// The pixels of the pattern that a command names, row by row.
+fn pattern(bytes: &[u8], depth: usize, command: &[u8]) -> [[u32; 8]; 8] {
+    let first = number(command, 36) + 65_536 * number(command, 38);
+    let pixel = |column: usize, row: usize| {
+        whole_pixel(bytes, depth, first + (8 * row + column) * depth / 8)
+    };
+    std::array::from_fn(|row| std::array::from_fn(|column| pixel(column, row)))
+}
+
+/// s, or d where s is the key.
+fn keyed(key: u32, s: u32, d: u32) -> u32 {
+    if s == key {
+        d
+    } else {
+        s
+    }
+}
+
 /// s and d combined: each bit of the result is bit 2s + d of the code.
 fn combined(code: u8, s: u32, d: u32) -> u32 {
     (0..16)
@@ -75,6 +100,25 @@ fn combined(code: u8, s: u32, d: u32) -> u32 {
             (u32::from(code) >> (2 * s + d) & 1) << bit
         })
         .sum()
+}
+
+/// Which bytes of a memory of so many the pixels of a command's rectangle take, its upper left pixel on the
+/// surface being (x, y).
+pub fn bytes_of(screen: &[u8], command: &[u8], (x, y): (usize, usize), memory: usize) -> Vec<bool> {
+    let on = surface(screen, command[1]);
+    let mut taken = vec![false; memory];
+    for j in 0..number(command, 10) {
+        for i in 0..number(command, 8) {
+            let at = on.address(x + i, y + j);
+            taken[at..at + on.depth / 8].fill(true);
+        }
+    }
+    taken
+}
+
+/// The address of a pixel of a command's surface.
+pub fn address(screen: &[u8], command: &[u8], (x, y): (usize, usize)) -> usize {
+    surface(screen, command[1]).address(x, y)
 }
 
 /// Draws a list, in the form that is named, on the sheet, each command changing all its pixels at once.
@@ -91,6 +135,16 @@ pub fn draw(form: u32, screen: &[u8], list: &[u8], words: &[u16], sheet: &mut [u
         // What the surface held just before: the sheet up to its end.
         before.clear();
         before.extend_from_slice(&sheet[..on.address(on.width, on.height - 1)]);
+        let moved = |i: usize, j: usize| on.pixel(&before, source_x + i, source_y + j);
+        let pattern = match command[0] {
+            3 | 4 => pattern(sheet, on.depth, command),
+            _ => [[0; 8]; 8],
+        };
+        let hatch = |i: usize, j: usize| {
+            let (column, row) = (usize::from(command[34]) + i, usize::from(command[35]) + j);
+            pattern[row % 8][column % 8]
+        };
+        let key = || number(command, 32) as u32;
         for j in 0..height {
             let line: Vec<u16> = match command[0] {
                 2 => words.by_ref().take((width * on.depth / 8 + 1) / 2).copied().collect(),
@@ -100,12 +154,12 @@ pub fn draw(form: u32, screen: &[u8], list: &[u8], words: &[u16], sheet: &mut [u
                 let d = on.pixel(&before, x + i, y + j);
                 let pixel = match command[0] {
                     0 => colour,
-                    1 => {
-                        let s = on.pixel(&before, source_x + i, source_y + j);
-                        combined(code, s, d)
-                    }
-                    _ if on.depth == 16 => combined(code, line[i].into(), d),
-                    _ => combined(code, line[i / 2].to_le_bytes()[i % 2].into(), d),
+                    1 => combined(code, moved(i, j), d),
+                    2 if on.depth == 16 => combined(code, line[i].into(), d),
+                    2 => combined(code, line[i / 2].to_le_bytes()[i % 2].into(), d),
+                    3 => combined(code, hatch(i, j), d),
+                    4 => keyed(key(), hatch(i, j), d),
+                    _ => keyed(key(), moved(i, j), d),
                 };
                 on.set(sheet, x + i, y + j, pixel % 2u32.pow(on.depth as u32));
             }

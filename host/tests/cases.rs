@@ -1,5 +1,5 @@
-//! Paper 01's cases S1 to S9 and B1 to B4, cases of paper 02's requests a) and c) to g), and 001's
-//! examples 1 to 8, on the reference, and on the library where it is linked.
+//! Paper 01's cases S1 to S9 and B1 to B4, cases of paper 02's requests a) and c) to h), 001's examples 1 to
+//! 8 and 002's examples 15 to 17, on the reference, and on the library where it is linked.
 
 use host::answers::{
     Compiled, Drawn, Form, Glyph, Hour, List, Played, Player, Point, Settings, Strip,
@@ -7,7 +7,7 @@ use host::answers::{
 use host::chart::Samples;
 use host::reference::MEMORY;
 use host::serial::BLOCK;
-use host::{forms, older, records as turning, reference, serial, sheet, unit, wear};
+use host::{forms, literal, older, records as turning, reference, serial, sheet, unit, wear};
 
 #[derive(Clone, Copy)]
 struct Screen {
@@ -646,7 +646,7 @@ fn refused_records() {
         (20, &[], (0x48, 0)),
         (21, &[], (0x44, 0x400)),
         (21, &[], (0x10000, 0x1_0000)),
-        (21, &[(0x8008, 5), (0x8000, 0)], (0x8000, 1)),
+        (21, &[(0x8008, 4), (0x8000, 0)], (0x8000, 1)),
         (22, &[(0x8018, 1), (0x8010, 0x3_FFFF), (0x8000, 0)], (0x8000, 1)),
         (23, &[], (0x10000, 0)),
         (23, &[(0x8010, 0), due[0], due[1]], (0x44, 1)),
@@ -1750,23 +1750,27 @@ fn bytes_past_31() {
     }
 }
 
-/// Operations above 2 are 12 in either form, whatever lies past byte 31.
+/// Operations above 2 are 12 in the short form, and above 5 in the long one, whatever lies past byte 31.
 #[test]
 fn operations_above_2() {
     for operation in 0..=255 {
-        // All fields 0 but a rectangle of one pixel: right for a fill, a move and a write.
+        // All fields 0 but a rectangle of one pixel: right for a fill, a move and a write, also a
+        // transparent one. A pattern at 0 has that pixel too.
         let short = command(operation, 0, 0, [0, 0, 1, 1, 0, 0, 0]);
-        let want = match operation {
-            0 | 1 => 0,
-            2 => 15,
-            _ => 12,
+        let (want, want_long) = match operation {
+            0 | 1 => (0, 0),
+            2 => (15, 15),
+            3 | 4 => (12, 29),
+            5 => (12, 0),
+            _ => (12, 12),
         };
         assert_eq!(number_in(32, &short), want);
-        assert_eq!(number_in(48, &long(&short)), want);
+        assert_eq!(number_in(48, &long(&short)), want_long);
         for byte in [32, 34, 35, 36, 39, 47] {
             let mut list = long(&short);
             list[byte] = 1;
-            assert_eq!(number_in(48, &list), 12);
+            let used = matches!((operation, byte), (3, 34 | 35) | (4, 32 | 34 | 35) | (5, 32));
+            assert_eq!(number_in(48, &list), if used { want_long } else { 12 });
         }
     }
 }
@@ -1991,5 +1995,534 @@ fn there_and_back() {
         assert_eq!(long.len(), 144);
         let back = turn(TO_SHORT, &long, 96);
         assert_eq!(back, if operation > 2 { Err(28) } else { Ok(short) });
+    }
+}
+
+// ---- Request h) of 02 ----
+
+/// A long command: a short one, then key colour, pattern x and y, and pattern address.
+fn further(short: Vec<u8>, key: u16, (x, y): (u8, u8), pattern: u32) -> Vec<u8> {
+    let mut part = short;
+    part.extend(key.to_le_bytes());
+    part.extend([x, y]);
+    part.extend(pattern.to_le_bytes());
+    part.resize(48, 0);
+    part
+}
+
+/// A pattern fill with raster code, one with key colour, and a transparent move, on main.
+fn hatch(code: u8, [x, y, w, h]: [u16; 4], first: (u8, u8), pattern: u32) -> Vec<u8> {
+    further(command(3, 0, code, [x, y, w, h, 0, 0, 0]), 0, first, pattern)
+}
+
+fn keyed(key: u16, [x, y, w, h]: [u16; 4], first: (u8, u8), pattern: u32) -> Vec<u8> {
+    further(command(4, 0, 0, [x, y, w, h, 0, 0, 0]), key, first, pattern)
+}
+
+fn clear(key: u16, [x, y, w, h]: [u16; 4], source: (u16, u16)) -> Vec<u8> {
+    further(command(5, 0, 0, [x, y, w, h, source.0, source.1, 0]), key, (0, 0), 0)
+}
+
+/// Number, place and part of a long list on a screen.
+fn refusal(screen: &Screen, list: &[u8]) -> (u32, u64, u64, u64) {
+    let (answer, _) = compile_by(COMPILE, 48, screen, list, &[], 8192);
+    (answer.number, answer.place, answer.part_at, answer.part_length)
+}
+
+fn clash(screen: &Screen, command: &[u8]) -> u32 {
+    refusal(screen, command).0
+}
+
+/// A memory of any bytes.
+fn any_memory() -> Vec<u8> {
+    (0..MEMORY as u32).map(|i| (i.wrapping_mul(2_654_435_761) >> 13) as u8).collect()
+}
+
+/// Draws a long list by both, on the sheet and pixel by pixel, which all leave the same memory.
+fn drawn_long(screen: &Screen, list: &[u8], memory: &[u8]) -> Vec<u8> {
+    let record = screen.record();
+    let mut sheet = memory.to_vec();
+    sheet::draw(48, &record, list, &[], &mut sheet);
+    for draw in DRAW {
+        let (mut stream, mut after) = (vec![0; 8192], memory.to_vec());
+        let answer = draw(48, &record, list, &[], &mut stream, &mut after);
+        assert_eq!((answer.number, answer.length), (0, 48 + 72 * (list.len() / 48) as u64));
+        assert!(after == sheet);
+        let mut played = memory.to_vec();
+        literal::play(&stream[..answer.length as usize], &mut played);
+        assert!(played == sheet);
+    }
+    sheet
+}
+
+/// Plays records by both, and pixel by pixel, over a memory; the number, and the memory.
+fn played_on(stream: &[Record], memory: &[u8]) -> (u32, Vec<u8>) {
+    let stream = records(stream);
+    let mut literally = memory.to_vec();
+    let [(answer, after), other] = [reference::play, unit::play].map(|play| {
+        let mut after = memory.to_vec();
+        (play(&stream, &mut after), after)
+    });
+    assert!((answer, &after) == (other.0, &other.1));
+    if answer.number == 0 {
+        literal::play(&stream, &mut literally);
+    }
+    assert!(after == literally);
+    (answer.number, after)
+}
+
+/// The nine records of a blit: 8008h and so on to 8000h.
+fn blit(values: [u32; 9]) -> Vec<Record> {
+    [0x8008, 0x800C, 0x8010, 0x8014, 0x8018, 0x801C, 0x8020, 0x8024, 0x8000]
+        .into_iter()
+        .zip(values)
+        .collect()
+}
+
+/// 002's example 15: the spans of source and destination overlap, and their pixels do not.
+#[test]
+fn example_15() {
+    let screen = Screen { depth: 16, ..S1 };
+    let list = clear(0x1F, [200, 20, 9, 101], (100, 10));
+    let (answer, records) = compile_by(COMPILE, 48, &screen, &list, &[], 4096);
+    assert_eq!((answer.number, answer.length), (0, 120));
+    let want = [5, 0x19C8, 0x3390, 0x140, 8, 0x64, 0x1F, 0, 0x4_0001];
+    assert_eq!(records[6..], blit(want));
+    // A source of blue and red, in turn.
+    let mut memory = any_memory();
+    for (i, pixel) in memory.chunks_mut(2).enumerate() {
+        if i % 320 < 150 {
+            pixel.copy_from_slice(&[[0x1F, 0], [0, 0xF8]][i % 2]);
+        }
+    }
+    let after = drawn_long(&screen, &list, &memory);
+    // Pixel 100 of line 10 is blue.
+    assert_eq!(after[0x3390..0x3392], memory[0x3390..0x3392]);
+    assert_eq!(after[0x3392..0x3394], [0, 0xF8]);
+}
+
+/// The address of pattern pixel (column, row) from pixel (3, 4) on, at 3C000h and depth 8.
+fn from_3_4(i: usize, j: usize) -> usize {
+    0x3_C000 + (4 + j) % 8 * 8 + (3 + i) % 8
+}
+
+/// 002's example 16.
+#[test]
+fn example_16() {
+    let screen = Screen { depth: 8, ..S1 };
+    let list = hatch(0xC, [10, 20, 100, 150], (3, 4), 0x3_C000);
+    let (answer, records) = compile_by(COMPILE, 48, &screen, &list, &[], 4096);
+    assert_eq!((answer.number, answer.length), (0, 120));
+    let want = [0xC_0006, 0x3_C023, 0x190A, 0xA0, 0x63, 0x95, 0, 0, 1];
+    assert_eq!(records[6..], blit(want));
+    let memory = any_memory();
+    let after = drawn_long(&screen, &list, &memory);
+    for (at, &byte) in after.iter().enumerate() {
+        let (x, y) = (at % 320, at / 320);
+        let inside = (10..110).contains(&x) && (20..170).contains(&y);
+        let from = if inside { from_3_4(x - 10, y - 20) } else { at };
+        assert_eq!(byte, memory[from]);
+    }
+}
+
+/// 002's example 17, whose source start is 3C023h by its own arithmetic; what it prints, 3C0023h, is
+/// outside its field.
+#[test]
+fn example_17() {
+    let screen = Screen { depth: 8, ..S1 };
+    let list = keyed(1, [10, 20, 100, 150], (3, 4), 0x3_C000);
+    let (answer, records) = compile_by(COMPILE, 48, &screen, &list, &[], 4096);
+    assert_eq!((answer.number, answer.length), (0, 120));
+    let want = [7, 0x3_C023, 0x190A, 0xA0, 0x63, 0x95, 1, 0, 1];
+    assert_eq!(records[6..], blit(want));
+    // Stripes: pixels of even columns are blue.
+    let mut memory = any_memory();
+    (0x3_C000..0x3_C040).step_by(2).for_each(|at| memory[at] = 1);
+    let after = drawn_long(&screen, &list, &memory);
+    for (i, j) in [(0, 0), (1, 0), (2, 7), (7, 149), (98, 1), (99, 149)] {
+        let (at, from) = (0x190A + 320 * j + i, from_3_4(i, j));
+        assert_eq!(after[at], memory[if memory[from] == 1 { at } else { from }]);
+    }
+    let printed = blit([7, 0x3C_0023, 0x190A, 0xA0, 0x63, 0x95, 1, 0, 1]);
+    assert_eq!(played_on(&printed, &memory).0, 21);
+}
+
+/// Every first pixel, at both depths, over a rectangle that repeats the pattern both ways.
+#[test]
+fn phases() {
+    let memory = any_memory();
+    for (depth, pattern) in [(8, 0x3_FFC0), (16, 0x3_FF80)] {
+        let screen = Screen { depth, panel: (24, 20), ..S1 };
+        let pixel = usize::from(depth / 8);
+        for (px, py) in (0..8).flat_map(|x| (0..8).map(move |y| (x, y))) {
+            let list = hatch(0xC, [2, 1, 19, 18], (px, py), pattern);
+            let after = drawn_long(&screen, &list, &memory);
+            for (i, j) in (0..19).flat_map(|i| (0..18).map(move |j| (i, j))) {
+                let (column, row) = ((usize::from(px) + i) % 8, (usize::from(py) + j) % 8);
+                let from = pattern as usize + pixel * (8 * row + column);
+                let to = pixel * (24 * (1 + j) + 2 + i);
+                assert_eq!(after[to..to + pixel], memory[from..from + pixel]);
+            }
+        }
+    }
+}
+
+/// A pattern under each raster code: bit 2s + d.
+#[test]
+fn codes_of_a_pattern() {
+    let screen = Screen { depth: 8, panel: (8, 1), ..S1 };
+    let mut memory = vec![0; MEMORY];
+    memory[0] = 0b0101;
+    memory[64] = 0b0011;
+    for code in 0..16 {
+        let after = drawn_long(&screen, &hatch(code, [0, 0, 1, 1], (0, 0), 64), &memory);
+        // Bits from the lowest: s, d = 1 1, 1 0, 0 1, 0 0.
+        let want = (0..4).map(|bit| (code >> (3 - bit) & 1) << bit).sum::<u8>();
+        assert_eq!(after[0] & 0xF, want, "code {code}");
+    }
+}
+
+/// The key is a whole pixel: at depth 16 both bytes.
+#[test]
+fn keys() {
+    let screen = Screen { depth: 16, panel: (8, 2), ..S1 };
+    let mut memory = vec![9; MEMORY];
+    let line = [0x34, 0x12, 0x34, 0x13, 0x35, 0x12, 0x12, 0x34];
+    memory[128..136].copy_from_slice(&line);
+    memory[16..24].copy_from_slice(&line);
+    let want = [9, 9, 0x34, 0x13, 0x35, 0x12, 0x12, 0x34];
+    let after = drawn_long(&screen, &keyed(0x1234, [0, 0, 4, 1], (0, 0), 128), &memory);
+    assert_eq!(after[..8], want);
+    let after = drawn_long(&screen, &clear(0x1234, [0, 0, 4, 1], (0, 1)), &memory);
+    assert_eq!(after[..8], want);
+}
+
+/// B3 and B2 with a transparent move: to the left it is drawn, to the right refused, unless the pixels
+/// are not the same ones.
+#[test]
+fn transparent_moves() {
+    let screen = Screen { depth: 8, panel: (8, 1), ..S1 };
+    let mut memory = vec![0; MEMORY];
+    (1..=8).zip(&mut memory).for_each(|(pixel, byte)| *byte = pixel);
+    let line = |list: &[u8]| drawn_long(&screen, list, &memory)[..8].to_vec();
+    assert_eq!(line(&clear(4, [0, 0, 7, 1], (1, 0))), [2, 3, 3, 5, 6, 7, 8, 8]);
+    assert_eq!(line(&clear(4, [0, 0, 8, 1], (0, 0))), [1, 2, 3, 4, 5, 6, 7, 8]);
+    assert_eq!(line(&clear(2, [4, 0, 4, 1], (0, 0))), [1, 2, 3, 4, 1, 6, 3, 4]);
+    for (to, width) in [(1, 7), (1, 2), (6, 7)] {
+        let command = clear(4, [to.min(8 - width), 0, width, 1], (0, 0));
+        assert_eq!(refusal(&screen, &command), (29, 0, 0, 48));
+    }
+
+    // By lines and pixels: a step to the side of the width, or up and down of the height, shares none.
+    let screen = Screen { depth: 8, panel: (64, 64), ..S1 };
+    let step = |x: i32, y: i32| {
+        let to = [(20 + x) as u16, (20 + y) as u16, 10, 5];
+        clash(&screen, &clear(0, to, (20, 20)))
+    };
+    for (x, y, number) in [
+        (0, 0, 0),
+        (1, 0, 29),
+        (9, 0, 29),
+        (10, 0, 0),
+        (-1, 0, 0),
+        (0, 4, 29),
+        (0, 5, 0),
+        (9, 4, 29),
+        (10, 4, 0),
+        (-9, 4, 29),
+        (-10, 4, 0),
+        (-9, 5, 0),
+        (9, -4, 0),
+    ] {
+        assert_eq!(step(x, y), number, "({x}, {y})");
+    }
+}
+
+/// Lines of 32 shown pixels, 96 bytes apart: patterns lie between them, and share a byte or none.
+#[test]
+fn patterns_between_lines() {
+    let screen = Screen { depth: 8, panel: (32, 8), lengths: (96, 0), ..S1 };
+    for (rectangle, patterns, number) in [
+        // Lines 0 to 2: bytes 0 to 31, 96 to 127, 192 to 223.
+        ([0, 0, 32, 3], &[0, 64, 192][..], 29),
+        ([0, 0, 32, 3], &[128, 256, 0x3_FFC0], 0),
+        // One byte: the pattern's last, and its first.
+        ([31, 1, 1, 1], &[64], 29),
+        ([31, 1, 1, 1], &[0, 128], 0),
+        ([0, 2, 1, 1], &[192], 29),
+        ([0, 2, 1, 1], &[128, 256], 0),
+        // The last of many lines, and none of them.
+        ([0, 0, 1, 8], &[640], 29),
+        ([0, 0, 1, 7], &[640], 0),
+        ([31, 0, 1, 8], &[512], 0),
+    ] {
+        for &pattern in patterns {
+            for list in
+                [hatch(0xC, rectangle, (0, 0), pattern), keyed(0, rectangle, (7, 7), pattern)]
+            {
+                assert_eq!(clash(&screen, &list), number, "{rectangle:?}, {pattern}");
+            }
+        }
+    }
+    // A pattern of 128 bytes, of which line 1 has the last 32.
+    let screen = Screen { depth: 16, panel: (16, 2), lengths: (112, 0), ..S1 };
+    assert_eq!(clash(&screen, &hatch(0xC, [0, 1, 8, 1], (0, 0), 128)), 29);
+    assert_eq!(clash(&screen, &hatch(0xC, [0, 0, 16, 1], (0, 0), 128)), 0);
+}
+
+/// Unused fields, the key, the pattern's first pixel and its address: 12, before all else.
+#[test]
+fn fields_of_new_operations() {
+    let deep = |depth| Screen { depth, panel: (64, 64), base: 0x1_0000, ..S1 };
+    let rectangle = [0, 0, 8, 8];
+    let commands = [
+        hatch(6, rectangle, (7, 7), 0),
+        keyed(255, rectangle, (7, 7), 0),
+        clear(255, rectangle, (9, 9)),
+    ];
+    // Byte and value that each command refuses at depth 8, by operation from 3, and at depth 16.
+    let both = [true; 3];
+    for (byte, value, at_8, at_16) in [
+        (1, 1, both, both),
+        (2, 16, both, both),
+        (2, 255, both, both),
+        (2, 1, [false, true, true], [false, true, true]),
+        (3, 1, both, both),
+        (12, 1, [true, true, false], [true, true, false]),
+        (15, 1, [true, true, true], [true, true, true]),
+        (16, 1, both, both),
+        (17, 1, both, both),
+        (18, 1, both, both),
+        (31, 1, both, both),
+        (32, 1, [true, false, false], [true, false, false]),
+        (33, 1, both, [true, false, false]),
+        (34, 8, both, both),
+        (34, 1, [false, false, true], [false, false, true]),
+        (35, 8, both, both),
+        (35, 255, both, both),
+        (35, 1, [false, false, true], [false, false, true]),
+        (36, 1, both, both),
+        (36, 32, both, both),
+        (36, 64, [false, false, true], both),
+        (36, 128, [false, false, true], [false, false, true]),
+        (38, 4, both, both),
+        (39, 1, both, both),
+        (40, 1, both, both),
+        (47, 128, both, both),
+    ] {
+        for (depth, want) in [(8, at_8), (16, at_16)] {
+            for (command, want) in commands.iter().zip(want) {
+                let mut list = command.clone();
+                assert_eq!(clash(&deep(depth), &list), 0);
+                list[byte] = value;
+                // A source 256 lines down is 14.
+                let number = match (byte, list[0]) {
+                    (15, 5) => 14,
+                    _ if want => 12,
+                    _ => 0,
+                };
+                assert_eq!(clash(&deep(depth), &list), number, "{} {byte} {value}", list[0]);
+            }
+        }
+    }
+    // The last pattern, and the first that is not inside.
+    for (depth, last) in [(8, 0x3_FFC0), (16, 0x3_FF80)] {
+        for pattern in [last, last + 64, last + 128, 0xFFFF_FF80] {
+            let want = if pattern == last { 0 } else { 12 };
+            assert_eq!(clash(&deep(depth), &hatch(0, rectangle, (0, 0), pattern)), want);
+            assert_eq!(clash(&deep(depth), &keyed(0, rectangle, (0, 0), pattern)), want);
+        }
+    }
+}
+
+/// In one command 12, 13, 14, 29; with its place and its 48 bytes; a later command's 12 comes later.
+#[test]
+fn order_of_29() {
+    let screen = Screen { depth: 8, panel: (64, 64), ..S1 };
+    let good = hatch(0xC, [0, 0, 8, 8], (0, 0), 0x2_0000);
+    let bad = hatch(0xC, [0, 0, 8, 8], (0, 0), 64);
+    let twelve = keyed(256, [0, 0, 8, 8], (0, 0), 0x2_0000);
+    assert_eq!(refusal(&screen, &[good.clone(), bad.clone(), twelve].concat()), (29, 1, 48, 48));
+    assert_eq!(clash(&screen, &hatch(0xC, [0, 0, 8, 8], (8, 0), 64)), 12);
+    assert_eq!(clash(&screen, &hatch(0xC, [0, 0, 8, 0], (0, 0), 64)), 13);
+    assert_eq!(clash(&screen, &hatch(0xC, [57, 0, 8, 8], (0, 0), 64)), 14);
+    assert_eq!(clash(&screen, &clear(0, [57, 0, 8, 8], (56, 0))), 14);
+    assert_eq!(clash(&screen, &clear(0, [56, 0, 8, 8], (57, 0))), 14);
+    assert_eq!(clash(&screen, &clear(0, [1, 0, 0, 8], (0, 0))), 13);
+    assert_eq!(clash(&screen, &clear(0, [1, 0, 8, 8], (0, 0))), 29);
+    // Words that are left over, and a stream buffer without room, come after it.
+    let (answer, _) = compile_by(COMPILE, 48, &screen, &bad, &[0], 0);
+    assert_eq!(answer.number, 29);
+    for draw in DRAW {
+        let (mut stream, mut memory) = (vec![0xA5; 200], vec![9; MEMORY]);
+        let answer = draw(48, &screen.record(), &bad, &[], &mut stream, &mut memory);
+        assert_eq!(answer, Drawn { number: 29, ..Drawn::default() });
+        assert!(stream.iter().all(|&byte| byte == 0xA5) && memory.iter().all(|&byte| byte == 9));
+    }
+    // At depth 4, and on the older chip, a command is 11.
+    assert_eq!(clash(&S1, &bad), 11);
+    assert_eq!(older_number_in(48, &S1, &bad, &[], 144), 11);
+}
+
+/// The window's commands take the window's lines; a pattern may lie in the other image.
+#[test]
+fn patterns_on_the_window() {
+    let window = Some((0, 0, 32, 8, 0x1_0000));
+    let screen = Screen { depth: 8, panel: (64, 64), window, lengths: (0, 96), ..S1 };
+    let on_window = |mut list: Vec<u8>| {
+        list[1] = 1;
+        list
+    };
+    let memory = any_memory();
+    let list = on_window(hatch(0xC, [1, 1, 30, 7], (1, 2), 0x80));
+    let after = drawn_long(&screen, &list, &memory);
+    assert_eq!(after[0x1_0000 + 96 + 1], memory[0x80 + 2 * 8 + 1]);
+    assert_eq!(clash(&screen, &on_window(hatch(0xC, [0, 0, 32, 8], (0, 0), 0x1_0000))), 29);
+    assert_eq!(clash(&screen, &on_window(hatch(0xC, [0, 0, 32, 8], (0, 0), 0x1_0080))), 0);
+    assert_eq!(clash(&screen, &on_window(clear(0, [4, 4, 8, 2], (0, 3)))), 29);
+    assert_eq!(clash(&screen, &on_window(clear(0, [8, 4, 8, 2], (0, 3)))), 0);
+}
+
+/// A list draws a pattern, and then with it.
+#[test]
+fn a_pattern_that_is_drawn() {
+    let screen = Screen { depth: 8, panel: (64, 4), ..S1 };
+    let list = [
+        long(&command(0, 0, 0, [0, 0, 64, 1, 0, 0, 3])),
+        long(&command(0, 0, 0, [8, 0, 1, 1, 0, 0, 5])),
+        hatch(0xC, [0, 2, 64, 2], (0, 1), 0),
+        keyed(3, [0, 1, 9, 1], (0, 1), 0),
+    ]
+    .concat();
+    let after = drawn_long(&screen, &list, &[9; MEMORY]);
+    // Row 1 of the pattern begins with 5, row 2 is all 3.
+    assert_eq!(after[128..138], [5, 3, 3, 3, 3, 3, 3, 3, 5, 3]);
+    assert_eq!(after[192..202], [3; 10]);
+    assert_eq!(after[64..74], [5, 9, 9, 9, 9, 9, 9, 9, 5, 9]);
+}
+
+/// What a foreign stream may ask of operations 5 to 7.
+#[test]
+fn starts_of_5_to_7() {
+    let memory = any_memory();
+    for operation in 5..=7 {
+        let start = |source: u32, destination: u32, width: u32, control: u32| {
+            let values = [operation, source, destination, 0, width - 1, 0, 0, 0, control];
+            played_on(&blit(values), &memory).0
+        };
+        // Odd addresses at depth 16, the source's too.
+        assert_eq!(start(0x100, 0x200, 4, 0x4_0001), 0);
+        assert_eq!(start(0x101, 0x200, 4, 0x4_0001), 21);
+        assert_eq!(start(0x100, 0x201, 4, 0x4_0001), 21);
+        assert_eq!(start(0x101, 0x201, 4, 1), 0);
+        // Past the memory's end.
+        assert_eq!(start(0, 0x3_FFFC, 4, 1), 0);
+        assert_eq!(start(0, 0x3_FFFD, 4, 1), 22);
+        assert_eq!(start(0, 0x3_FFF8, 4, 0x4_0001), 0);
+        assert_eq!(start(0, 0x3_FFFA, 4, 0x4_0001), 22);
+        // A move's source reaches as far as its destination, a pattern is inside wherever it begins.
+        let want = if operation == 5 { 22 } else { 0 };
+        assert_eq!(start(0x3_FFFF, 0, 4, 1), want);
+        assert_eq!(start(0x3_FFFE, 0, 4, 0x4_0001), want);
+    }
+    // 21 before 22, and pixels that are kept are touched.
+    let all_key = vec![7; MEMORY];
+    for operation in [5, 7] {
+        let values = [operation, 0, 0x3_FFFD, 0, 3, 0, 7, 0, 1];
+        assert_eq!(played_on(&blit(values), &all_key).0, 22);
+        let values = [operation, 0, 0x3_FFFD, 0, 3, 0, 7, 0, 0x4_0001];
+        assert_eq!(played_on(&blit(values), &all_key).0, 21);
+    }
+    // Those that the model has no operation for.
+    for operation in [1, 4, 8, 9, 10, 11, 13, 14, 15] {
+        assert_eq!(played_on(&blit([operation, 0, 0, 0, 0, 0, 0, 0, 1]), &memory).0, 21);
+    }
+}
+
+/// 5 and 7 look at no raster code and, at depth 8, at no high byte of the key.
+#[test]
+fn what_5_and_7_ignore() {
+    let mut memory = vec![9; MEMORY];
+    memory[64..72].copy_from_slice(&[1, 2, 3, 4, 1, 2, 3, 4]);
+    for operation in [5, 7] {
+        for (code, key) in [(0, 2), (6, 0xFF02), (0xF, 0x102)] {
+            let values = [operation + code * 0x1_0000, 64, 0, 4, 7, 0, key, 0xFFFF, 1];
+            let (number, after) = played_on(&blit(values), &memory);
+            assert_eq!((number, &after[..9]), (0, &[1, 9, 3, 4, 1, 9, 3, 4, 9][..]));
+        }
+        // At depth 16 it is looked at.
+        for (key, want) in [(0x201, [9, 9, 3, 4]), (1, [1, 2, 3, 4]), (0x401, [1, 2, 3, 4])] {
+            let values = [operation, 64, 0, 4, 1, 0, key, 0, 0x4_0001];
+            let (number, after) = played_on(&blit(values), &memory);
+            assert_eq!((number, &after[..4]), (0, &want[..]));
+        }
+    }
+}
+
+/// A pattern is read whole before the first pixel; a transparent move reads what it has stored.
+#[test]
+fn patterns_and_moves_onto_themselves() {
+    let mut memory = vec![0; MEMORY];
+    (0..64).for_each(|i| memory[i] = i as u8);
+    // From pixel (1, 0) on over the pattern itself: 16 by 4, in lines of 16 bytes.
+    for operation in [6, 7] {
+        let values = [operation + 0xC_0000, 1, 0, 8, 15, 3, 0xFF, 0, 1];
+        let (number, after) = played_on(&blit(values), &memory);
+        assert_eq!(number, 0);
+        for (at, &byte) in after[..64].iter().enumerate() {
+            assert_eq!(usize::from(byte), at / 16 * 8 + (1 + at) % 8);
+        }
+    }
+    // One pixel on, it smears, but for the key.
+    let (number, after) = played_on(&blit([5, 1, 2, 0, 5, 0, 9, 0, 1]), &memory);
+    assert_eq!((number, &after[..9]), (0, &[0, 1, 1, 1, 1, 1, 1, 1, 8][..]));
+    let (number, after) = played_on(&blit([5, 1, 2, 0, 5, 0, 1, 0, 1]), &memory);
+    assert_eq!((number, &after[..9]), (0, &[0, 1, 2, 2, 2, 2, 2, 2, 8][..]));
+    // A line further up it reads what the line above has stored: lines of 4 bytes.
+    let (number, after) = played_on(&blit([5, 0, 4, 2, 3, 2, 99, 0, 1]), &memory);
+    assert_eq!((number, &after[..16]), (0, &[0, 1, 2, 3].repeat(4)[..]));
+}
+
+/// Short lists with operations 3 to 5 are 12; turned long they may be right, and do not come back.
+#[test]
+fn new_operations_turned_long() {
+    let screen = Screen { depth: 8, panel: (64, 64), ..S1 };
+    for (operation, code, number) in [(3, 6, 0), (4, 0, 0), (5, 0, 29)] {
+        let short = command(operation, 0, code, [8, 8, 8, 8, 0, 0, 0]);
+        let short = if operation == 5 { command(5, 0, 0, [1, 0, 8, 8, 0, 0, 0]) } else { short };
+        let (answer, _) = compile_by(COMPILE, 32, &screen, &short, &[], 4096);
+        assert_eq!((answer.number, answer.part_length), (12, 32));
+        let long = turn(TO_LONG, &short, 48).unwrap();
+        assert_eq!(clash(&screen, &long), number);
+        assert_eq!(turn(TO_SHORT, &long, 32), Err(28));
+    }
+}
+
+/// A stream of patterns in blocks, cut anywhere.
+#[test]
+fn patterns_in_blocks() {
+    let screen = Screen { depth: 16, panel: (64, 16), ..S1 };
+    let list = [
+        hatch(6, [1, 1, 60, 14], (3, 5), 0x3_FF80),
+        keyed(0x1234, [0, 0, 64, 8], (1, 1), 0x2_0000),
+        clear(0, [0, 0, 30, 8], (20, 4)),
+    ]
+    .concat();
+    let memory = any_memory();
+    let drawn = drawn_long(&screen, &list, &memory);
+    let mut stream = vec![0; 48 + 3 * 72];
+    assert_eq!(reference::compile(48, &screen.record(), &list, &[], &mut stream).number, 0);
+    for size in [1, 7, 8, 60, BLOCK] {
+        for (mut player, feed, end) in [
+            (serial::new_player(), serial::feed as Feed, serial::end as End),
+            (unit::new_player(), unit::feed, unit::end),
+        ] {
+            let mut after = memory.clone();
+            for block in stream.chunks(size) {
+                assert_eq!(feed(&mut player, block, &mut after), Played::default());
+            }
+            assert_eq!(end(&mut player).number, 0);
+            assert!(after == drawn);
+        }
     }
 }

@@ -1,8 +1,8 @@
 //! Compares the library with the reference on random inputs, and the reference with the plain sheet
 //! and with pixel-by-pixel playing; the player that is fed in blocks also with the one that is not,
 //! the older chip's bytes with the other chip's values, and a point's colour with the bits of memory
-//! where it is said to stand; lists in either form with what short ones compile to, turned lists with
-//! their records, and compiled and drawn in both forms; rings and strips with what the accepted samples
+//! where it is said to stand; lists in either form with what short ones compile to and, for operations 3 to
+//! 5, with the bytes that they share; turned lists with their records, and compiled and drawn in both forms; rings and strips with what the accepted samples
 //! say, drawn strips with their picture, and the library's rings of any numbers with what they tell
 //! themselves.
 //!
@@ -12,15 +12,17 @@
 //! `compare 1 SEED NUMBER` repeats one. Ends with status 1 on a difference, or where a refusal
 //! number was never seen, or not by `feed`, `end`, turning, the older chip's functions and those of the
 //! wear strip where they give it, or not in each form of a list by compiling and drawing; or where something
-//! of `Seen`, on either chip, of `Formed` or of `Worn` was not.
+//! of `Seen`, on either chip, of `Formed`, of `Hatched` or of `Worn` was not.
 
 use std::fmt::{Debug, Write};
+use std::ops::Range;
 use std::process::ExitCode;
 use std::time::Instant;
 
 use host::answers::{Compiled, Drawn, Glyph, Hour, List, Played, Player, Point, Settings, Strip};
 use host::chart::{Samples, Told, GROUNDS};
-use host::inputs::{self, Asked, Drawing, Rng, NO_FORMS};
+use host::inputs::{self, Asked, Drawing, Rng, NO_FORMS, POOR};
+use host::records::FIELDS;
 use host::reference::{LONG, MEMORY, SHORT};
 use host::serial::{self, BLOCK};
 use host::wear::{self, HOURS};
@@ -59,7 +61,7 @@ const TO_SHORT: usize = 13;
 
 /// The highest number of a refusal, and those that there are not.
 const HIGHEST: usize = 32;
-const FREE: std::ops::Range<usize> = 29..32;
+const FREE: Range<usize> = 30..32;
 
 /// What some functions must have given; `feed` and `end`, repeated answers among it.
 const GIVEN: [(usize, &[usize]); 9] = [
@@ -74,10 +76,13 @@ const GIVEN: [(usize, &[usize]); 9] = [
     (TO_SHORT, &[0, 10, 17, 28]),
 ];
 
+/// The number that the long form alone has.
+const LONG_ALONE: usize = 29;
+
 /// Functions that take a list, and what each must have given in either form.
 const LISTED: [(usize, &[usize]); 3] = [
-    (COMPILE, &[0, 1, 2, 3, 4, 5, 6, 7, 8, 9, 10, 11, 12, 13, 14, 15, 16, 17, 26]),
-    (DRAW, &[0, 1, 2, 3, 4, 5, 6, 7, 8, 9, 10, 11, 12, 13, 14, 15, 16, 17, 18, 26]),
+    (COMPILE, &[0, 1, 2, 3, 4, 5, 6, 7, 8, 9, 10, 11, 12, 13, 14, 15, 16, 17, 26, LONG_ALONE]),
+    (DRAW, &[0, 1, 2, 3, 4, 5, 6, 7, 8, 9, 10, 11, 12, 13, 14, 15, 16, 17, 18, 26, LONG_ALONE]),
     (OLDER_COMPILE, &[0, 1, 2, 3, 4, 5, 6, 7, 8, 9, 10, 11, 16, 17, 26]),
 ];
 
@@ -209,8 +214,10 @@ struct Formed {
     lengths: [[u64; 4]; 2],
     /// 11 for a long list with a byte past 31 that is not zero.
     eleven_past: u64,
-    /// By form: 12 for operations 3, 4, 5 and any above, and for nothing else.
-    operations: [[u64; 4]; 2],
+    /// 12 for operations 3, 4, 5 and any above in the short form, and for one above 5 in the long form, and
+    /// for nothing else.
+    operations: [u64; 4],
+    above: u64,
     /// 12 for one byte past 31 and nothing else, by the byte, and by the operation.
     past: [u64; 16],
     past_operation: [u64; 3],
@@ -251,8 +258,8 @@ impl Formed {
             ("short: 10 by the other form, for 65, before 11; 64", self.lengths[0].to_vec()),
             ("long: the same", self.lengths[1].to_vec()),
             ("11 before a byte past 31", vec![self.eleven_past]),
-            ("short: 12 for operations 3, 4, 5, above alone", self.operations[0].to_vec()),
-            ("long: the same", self.operations[1].to_vec()),
+            ("short: 12 for operations 3, 4, 5, above alone", self.operations.to_vec()),
+            ("long: 12 for an operation above 5 alone", vec![self.above]),
             ("12 for bytes 32 to 47 alone", self.past.to_vec()),
             ("12 for one of them by operation", self.past_operation.to_vec()),
             ("short: refused commands, first and later", self.parts[0].to_vec()),
@@ -270,6 +277,97 @@ impl Formed {
             ("both forms: accepted, 12 to 17, refused screens", self.both.to_vec()),
             ("both forms drawn", vec![self.drawn]),
         ]
+    }
+}
+
+/// What else must be seen of the commands with operations 3 to 5, and of the chip's operations 5 to 7: by
+/// operation, and by depth, 8 and 16.
+#[derive(Default)]
+struct Hatched {
+    accepted: [[u64; 2]; 3],
+    /// 12 for one of `FIELDS` and nothing else; and 13, 14 and 29.
+    grounds: [[u64; FIELDS.len()]; 3],
+    refused: [[u64; 2]; 3],
+    clashes: [[u64; 2]; 3],
+    /// Accepted: patterns inside the destination's span, and a pattern's end, and its start, at a line;
+    /// moves to a greater address of overlapping spans; onto a part of the source, and onto all of it.
+    patterns: [[u64; 2]; 3],
+    moves: [[u64; 2]; 3],
+    /// Pattern x and y of accepted commands.
+    phases: [[u64; 8]; 2],
+    /// Short lists with such an operation that are turned long: accepted, refused there with 29.
+    turned: [u64; 2],
+    /// Played: blits, those that keep and that store a pixel, and those that change what they are drawn from.
+    blits: [[u64; 2]; 3],
+    kept: [[u64; 2]; 3],
+    stored: [[u64; 2]; 3],
+    changed: [[u64; 2]; 3],
+    /// Starts refused with 21 at depth 16, and with 22.
+    starts: [[u64; 2]; 3],
+}
+
+impl Hatched {
+    fn count_blit(&mut self, blit: &literal::Blit) {
+        let (5..=7, deep) = (blit.operation, blit.pixel - 1) else { return };
+        let row = blit.operation as usize - 5;
+        self.blits[row][deep] += 1;
+        self.kept[row][deep] += u64::from(blit.kept > 0);
+        self.stored[row][deep] += u64::from(blit.stored > 0);
+        self.changed[row][deep] += u64::from(blit.changed);
+    }
+
+    /// Counts a refused start of one of these operations: 21 for an odd address, and 22.
+    fn count_start(&mut self, stream: &[u8], answer: Played) {
+        let (21 | 22, place) = (answer.number, answer.place as usize) else { return };
+        let registers = registers_after(&stream[..8 * place]);
+        let (operation, source) = (registers[7] % 16, registers[8]);
+        let (number, value) = record_at(&stream[8 * place..]);
+        if number != 0x8000 || !(5..=7).contains(&operation) || ![1, 0x4_0001].contains(&value) {
+            return;
+        }
+        // The source's alone, where it is 21.
+        let [odd, outside] = &mut self.starts[operation as usize - 5];
+        let odds = [source % 2, registers[9] % 2];
+        *odd += u64::from(answer.number == 21 && odds == [1, 0]);
+        *outside += u64::from(answer.number == 22);
+    }
+
+    /// The counts with their names.
+    fn rows(&self) -> Vec<(String, Vec<u64>)> {
+        let mut rows = vec![
+            ("commands 3, 4, 5 by depth".into(), self.accepted.concat()),
+            ("the same, 13 and 14".into(), self.refused.concat()),
+            ("the same, 29 by depth".into(), self.clashes.concat()),
+            (
+                "patterns inside the span, ending, beginning at a line, by depth".into(),
+                self.patterns.concat(),
+            ),
+            (
+                "transparent moves to overlapping spans, a part of the source, all of it, by depth"
+                    .into(),
+                self.moves.concat(),
+            ),
+            ("pattern x from 0".into(), self.phases[0].to_vec()),
+            ("pattern y from 0".into(), self.phases[1].to_vec()),
+            ("turned long: accepted, 29".into(), self.turned.to_vec()),
+            ("blits 5, 6, 7 by depth".into(), self.blits.concat()),
+            ("the same with a stored pixel".into(), self.stored.concat()),
+            ("5 and 7 with a kept pixel by depth".into(), [self.kept[0], self.kept[2]].concat()),
+            ("5, 6, 7 that change their source or pattern".into(), self.changed.concat()),
+            ("5, 6, 7 refused with 21, with 22".into(), self.starts.concat()),
+        ];
+        for (operation, grounds) in (3..).zip(self.grounds) {
+            // A transparent move has a source, and of a pattern address zero.
+            let asked =
+                |i: &usize| operation != 5 || !["source", "pattern outside"].contains(&FIELDS[*i]);
+            let asked: Vec<usize> = (0..FIELDS.len()).filter(asked).collect();
+            let names: Vec<&str> = asked.iter().map(|&i| FIELDS[i]).collect();
+            rows.push((
+                format!("12 of operation {operation} alone for {}", names.join(", ")),
+                asked.iter().map(|&i| grounds[i]).collect(),
+            ));
+        }
+        rows
     }
 }
 
@@ -355,7 +453,7 @@ type Turned = Result<Vec<u8>, u32>;
 type Checked = Result<(), String>;
 
 struct Bench {
-    /// Random bytes that memories and buffers begin with.
+    /// Random bytes that memories and buffers begin with, stretches of few colours among them.
     pool: Vec<u8>,
     /// Memory and stream buffer of the reference, and of the library.
     memory: [Vec<u8>; 2],
@@ -368,8 +466,9 @@ struct Bench {
     by_form: [[[u64; HIGHEST + 1]; 3]; LISTED.len()],
     /// How often the rest was seen of each chip.
     chips: [Seen; 2],
-    /// And of forms, and of rings and strips.
+    /// And of forms, of patterns and transparent moves, and of rings and strips.
     formed: Formed,
+    hatched: Hatched,
     worn: Worn,
 }
 
@@ -484,6 +583,23 @@ fn settings(answer: Compiled, screen: &[u8], values: [u32; 6]) -> Settings {
     Settings { depth, rotation, flag, width: number(4), height: number(6), values }
 }
 
+/// Number and value of the record at a stream's front.
+fn record_at(stream: &[u8]) -> (u32, u32) {
+    let half = |at: usize| u32::from_le_bytes(stream[at..at + 4].try_into().unwrap());
+    (half(0), half(4))
+}
+
+/// The registers as some records leave them, in rising number.
+fn registers_after(records: &[u8]) -> [u32; 15] {
+    let mut registers = [0; 15];
+    for (number, value) in records.chunks(8).map(record_at) {
+        if let Some(i) = inputs::NUMBERS[..15].iter().position(|&other| other == number) {
+            registers[i] = value;
+        }
+    }
+    registers
+}
+
 /// The values of the records at a stream's front.
 fn record_values<const N: usize>(stream: &[u8]) -> [u32; N] {
     std::array::from_fn(|i| u32::from_le_bytes(stream[8 * i + 4..8 * i + 8].try_into().unwrap()))
@@ -505,7 +621,12 @@ impl Bench {
     fn new(seed: u64) -> Bench {
         let mut rng = Rng::new(seed, u64::MAX);
         let length = (2 * MEMORY + 1).max(inputs::MOST_ROOM);
-        let pool = (0..length).map(|_| rng.any() as u8).collect();
+        let mut pool = Vec::with_capacity(length + 4096);
+        while pool.len() < length {
+            let poor = rng.one_in(2);
+            let byte = |_| if poor { rng.pick(&POOR) } else { rng.any() as u8 };
+            pool.extend((0..4096).map(byte));
+        }
         Bench {
             pool,
             memory: Default::default(),
@@ -515,6 +636,7 @@ impl Bench {
             by_form: [[[0; HIGHEST + 1]; 3]; LISTED.len()],
             chips: Default::default(),
             formed: Formed::default(),
+            hatched: Hatched::default(),
             worn: Worn::default(),
         }
     }
@@ -614,11 +736,76 @@ impl Bench {
             let past = |part: &[u8]| part[32..].iter().any(|&byte| byte != 0);
             formed.eleven_past += u64::from(list.chunks(size).any(past));
         }
-        if (12..=15).contains(&number) {
+        if matches!(number, 12..=15 | 29) {
             formed.parts[index][usize::from(place > 0)] += 1;
             let part = &list[size * place as usize..][..size];
-            self.count_part(index, screen, part, number);
+            match records::asked(part, screen[0]) {
+                Some(asked) if index == 1 => self.count_refused(screen, part, asked, number),
+                _ => self.count_part(index, screen, part, number),
+            }
         }
+        if number == 0 && index == 1 && chip.index == 0 {
+            let new = |part: &&[u8]| (3..=5).contains(&part[0]);
+            list.chunks(size).filter(new).for_each(|part| self.count_new(screen, part));
+        }
+    }
+
+    /// Counts why a command with operation 3 to 5 is refused: for 12, where it is one field alone.
+    fn count_refused(
+        &mut self,
+        screen: &[u8],
+        part: &[u8],
+        (grounds, stand_in): ([bool; FIELDS.len()], [u8; 32]),
+        number: u32,
+    ) {
+        let hatched = &mut self.hatched;
+        let operation = usize::from(part[0] - 3);
+        match number {
+            12 if grounds.iter().filter(|&&ground| ground).count() == 1 => {
+                let stand_in = reference::compile(SHORT, screen, &stand_in, &[], &mut []);
+                let i = grounds.iter().position(|&ground| ground).unwrap();
+                hatched.grounds[operation][i] += u64::from(stand_in.number != 12);
+            }
+            13 | 14 => hatched.refused[operation][number as usize - 13] += 1,
+            29 => hatched.clashes[operation][usize::from(screen[0] / 16)] += 1,
+            _ => {}
+        }
+    }
+
+    /// Counts an accepted command with operation 3 to 5.
+    fn count_new(&mut self, screen: &[u8], part: &[u8]) {
+        let hatched = &mut self.hatched;
+        let (depth, deep) = (usize::from(screen[0]), usize::from(screen[0] / 16));
+        let number = |at: usize| usize::from(u16::from_le_bytes([part[at], part[at + 1]]));
+        let ((x, y), (width, height)) = ((number(4), number(6)), (number(8), number(10)));
+        let source = (number(12), number(14));
+        // Bytes from the first to the last of some lines.
+        let span = |(x, y): (usize, usize), height: usize| {
+            let last = sheet::address(screen, part, (x + width - 1, y + height - 1));
+            sheet::address(screen, part, (x, y))..last + depth / 8
+        };
+        let overlap = |a: &Range<usize>, b: &Range<usize>| a.start < b.end && b.start < a.end;
+        let drawn = span((x, y), height);
+        hatched.accepted[usize::from(part[0] - 3)][deep] += 1;
+        if part[0] == 5 {
+            let read = span(source, height);
+            let away = (x.abs_diff(source.0), y.abs_diff(source.1));
+            let apart = away.0 >= width || away.1 >= height;
+            let [spans, onto, whole] = &mut hatched.moves;
+            spans[deep] += u64::from(apart && drawn.start > read.start && overlap(&drawn, &read));
+            onto[deep] += u64::from(!apart && away != (0, 0));
+            whole[deep] += u64::from(away == (0, 0));
+            return;
+        }
+        let first = number(36) + 65_536 * number(38);
+        let pattern = first..first + 8 * depth;
+        let lines = || (0..height).map(|j| span((x, y + j), 1));
+        let [inside, ending, beginning] = &mut hatched.patterns;
+        inside[deep] += u64::from(overlap(&drawn, &pattern));
+        ending[deep] += u64::from(lines().any(|line| line.start == pattern.end));
+        beginning[deep] += u64::from(lines().any(|line| line.end == pattern.start));
+        hatched.phases[0][usize::from(part[34])] += 1;
+        hatched.phases[1][usize::from(part[35])] += 1;
     }
 
     /// Counts what a command is refused for alone: as a short one, put right, it is not refused with 12.
@@ -636,9 +823,10 @@ impl Bench {
                 formed.past[i] += 1;
                 formed.past_operation[usize::from(operation)] += 1;
             }
-            (None, None) if operation > 2 && (0..=2).any(right) => {
-                formed.operations[index][usize::from(operation - 3).min(3)] += 1;
-            }
+            (None, None) if operation > 2 && (0..=2).any(right) => match index {
+                0 => formed.operations[usize::from(operation - 3).min(3)] += 1,
+                _ => formed.above += 1,
+            },
             _ => {}
         }
     }
@@ -653,7 +841,7 @@ impl Bench {
         let theirs = chip.compile[1](form, screen, list, words, other);
         same("compile", answer, theirs, input)?;
         same_bytes("compile's stream", stream, other, input)?;
-        let told = records::told(form, list, |list| {
+        let told = records::told(form, screen, list, |list| {
             chip.compile[0](SHORT, screen, list, words, &mut vec![0; room])
         });
         same("compile, as short lists say", answer, told, input)?;
@@ -724,10 +912,12 @@ impl Bench {
         if answer.number == 0 {
             self.third.clear();
             self.third.extend_from_slice(&self.pool[at..at + MEMORY]);
-            literal::play(stream, &mut self.third);
+            let blits = literal::play(stream, &mut self.third);
             same_bytes("played pixel by pixel", memory, &self.third, input)?;
+            blits.iter().for_each(|blit| self.hatched.count_blit(blit));
         } else {
             same_bytes("memory of a refusal", memory, &self.pool[at..at + memory.len()], input)?;
+            self.hatched.count_start(stream, answer);
         }
         Ok(answer.number)
     }
@@ -916,21 +1106,30 @@ impl Bench {
         }
     }
 
-    /// One short list, whole or damaged, beside the same turned long: compiled for both chips, and drawn.
+    /// One short list, whole or damaged, beside the same turned long: compiled for both chips, and drawn,
+    /// unless an operation is above 2.
     fn both_forms(&mut self, rng: &mut Rng) -> Checked {
         let mut short = inputs::accepted_in(rng, SHORT);
-        if rng.one_in(2) {
+        if rng.one_in(8) {
+            inputs::make_new(rng, &mut short.list);
+        } else if rng.one_in(2) {
             inputs::damage(rng, &mut short);
             short.form = SHORT;
         }
         let room = 48 * (short.list.len() / 32) + rng.below(100) as usize;
-        let turned = self.turn_by(rng, &THERE, &short.list, room)?;
-        let above = records::any_above(SHORT, &short.list);
-        let (Ok(list), false) = (turned, above) else { return Ok(()) };
+        let Ok(list) = self.turn_by(rng, &THERE, &short.list, room)? else { return Ok(()) };
         let Drawing { screen, words, room, .. } = &short;
         let (screen, words, room) = (screen.clone(), words.clone(), *room);
         let long = Drawing { form: LONG, screen, list, words, room };
         let input = || drawing_text(&long);
+        if records::any_above(SHORT, &short.list) {
+            let answer = self.compile_on(&NEWER, &short)?;
+            let other = self.compile_on(&NEWER, &long)?;
+            let [accepted, clash] = &mut self.hatched.turned;
+            *accepted += u64::from(answer.number == 12 && other.number == 0);
+            *clash += u64::from(answer.number == 12 && other.number == 29);
+            return Ok(());
+        }
 
         for chip in [NEWER, OLDER] {
             let answer = self.compile_on(&chip, &short)?;
@@ -1103,14 +1302,7 @@ impl Bench {
         same("the whole player", ended, whole, &input)?;
         let taken = if at_end { records } else { &records[..8 * whole.place as usize] };
         same("records taken", player.count, taken.len() as u64 / 8, &input)?;
-        let mut registers = [0; 15];
-        for record in taken.chunks(8) {
-            let half = |at: usize| u32::from_le_bytes(record[at..at + 4].try_into().unwrap());
-            if let Some(i) = inputs::NUMBERS[..15].iter().position(|&number| number == half(0)) {
-                registers[i] = half(4);
-            }
-        }
-        same("registers", player.registers, registers, &input)?;
+        same("registers", player.registers, registers_after(taken), &input)?;
         let memory = &self.memory[0][..MEMORY];
         if whole.number == 0 {
             same_bytes("the whole player's memory", memory, &self.third, &input)?;
@@ -1553,7 +1745,8 @@ fn main() -> ExitCode {
         for ((_, numbers), forms) in LISTED.iter().zip(&bench.by_form) {
             let row = forms.map(|seen| seen[number]);
             report += &row.map(|times| format!("{times:>10}")).concat();
-            if numbers.contains(&number) && row[..2].contains(&0) && !unseen.contains(&number) {
+            let must = if number == LONG_ALONE { &row[1..2] } else { &row[..2] };
+            if numbers.contains(&number) && must.contains(&0) && !unseen.contains(&number) {
                 unseen.push(number);
             }
         }
@@ -1576,6 +1769,11 @@ fn main() -> ExitCode {
     }
     println!("Forms of a list:");
     for (what, counts) in bench.formed.rows() {
+        println!("  {what} {counts:?}");
+        missed |= counts.contains(&0);
+    }
+    println!("Patterns and transparent moves:");
+    for (what, counts) in bench.hatched.rows() {
         println!("  {what} {counts:?}");
         missed |= counts.contains(&0);
     }

@@ -10,7 +10,7 @@ use std::hint::black_box;
 use std::time::Instant;
 
 use host::answers::{Form, List, Played, Player, Point, Settings};
-use host::inputs::Rng;
+use host::inputs::{Rng, POOR};
 use host::reference::{LONG, MEMORY, SHORT};
 use host::serial::{self, BLOCK};
 use host::wear::{self, HOURS};
@@ -92,6 +92,16 @@ fn command(operation: u8, code: u8, numbers: [u16; 7]) -> Vec<u8> {
     part
 }
 
+/// A long command on main: a short one, then key colour, pattern x and y, and pattern address.
+fn long_command(short: Vec<u8>, key: u16, [x, y]: [u8; 2], pattern: u32) -> Vec<u8> {
+    let mut part = short;
+    part.extend(key.to_le_bytes());
+    part.extend([x, y]);
+    part.extend(pattern.to_le_bytes());
+    part.resize(48, 0);
+    part
+}
+
 /// A short list's stream.
 fn compiled(screen: &[u8], list: &[u8], words: &[u16]) -> Vec<u8> {
     compiled_in(SHORT, screen, list, words)
@@ -133,6 +143,11 @@ struct Timing {
 impl Timing {
     fn memory(&mut self) -> Vec<u8> {
         (0..MEMORY).map(|_| self.rng.any() as u8).collect()
+    }
+
+    /// A memory of two bytes, so that many pixels are of one colour.
+    fn poor_memory(&mut self) -> Vec<u8> {
+        (0..MEMORY).map(|_| self.rng.pick(&POOR)).collect()
     }
 
     fn compile(
@@ -188,7 +203,18 @@ impl Timing {
 
     /// Plays commands that cover `bytes` bytes, with the plain form of the same beside it.
     fn play(&mut self, what: &str, stream: &[u8], bytes: usize, plain: Plain) {
-        let mut memory = self.memory();
+        let memory = self.memory();
+        self.play_on(memory, what, stream, bytes, plain);
+    }
+
+    fn play_on(
+        &mut self,
+        mut memory: Vec<u8>,
+        what: &str,
+        stream: &[u8],
+        bytes: usize,
+        plain: Plain,
+    ) {
         let (mut other, mut third) = (memory.clone(), memory.clone());
         assert_eq!(reference::play(stream, &mut memory), unit::play(stream, &mut other));
         assert_eq!(memory, other);
@@ -420,6 +446,37 @@ fn main() {
                 timing.play(&format!("{name} {way}, depth {depth}"), &stream, size, None);
             }
         }
+    }
+
+    // The pattern lies in the first lines, above the rectangle; of the key colour is half of its pixels
+    // at depth 8, a quarter at 16, and so is it of what is moved.
+    let key = |depth: u8| u16::from_le_bytes([POOR[1], if depth == 8 { 0 } else { POOR[1] }]);
+    for (code, name) in [(0xC, ""), (6, " under exclusive or")] {
+        for (depth, screen, x, width) in [(8, &bytes, 8, 496), (16, &words, 4, 248)] {
+            let short = command(3, code, [x, 8, width, 496, 0, 0, 0]);
+            let stream = compiled_in(LONG, screen, &long_command(short, 0, [3, 4], 1024), &[]);
+            timing.play(&format!("pattern fill{name}, depth {depth}"), &stream, RECTANGLE, None);
+        }
+    }
+    for (depth, screen, x, width) in [(8, &bytes, 8, 496), (16, &words, 4, 248)] {
+        let short = command(4, 0, [x, 8, width, 496, 0, 0, 0]);
+        let list = long_command(short, key(depth), [3, 4], 1024);
+        let (memory, stream) = (timing.poor_memory(), compiled_in(LONG, screen, &list, &[]));
+        let what = format!("pattern fill with key colour, depth {depth}");
+        timing.play_on(memory, &what, &stream, RECTANGLE, None);
+    }
+    for (depth, screen, pixel) in [(8, &bytes, 1), (16, &words, 2)] {
+        let (way, [x, y, w, h, _, sy], size, _) = moves[0];
+        let short = command(5, 0, [x / pixel, y, w / pixel, h, x / pixel + 1, sy, 0]);
+        let list = long_command(short, key(depth), [0, 0], 0);
+        let (memory, stream) = (timing.poor_memory(), compiled_in(LONG, screen, &list, &[]));
+        timing.play_on(
+            memory,
+            &format!("transparent move {way}, depth {depth}"),
+            &stream,
+            size,
+            None,
+        );
     }
 
     let written = compiled(&bytes, &write, &pixels);
