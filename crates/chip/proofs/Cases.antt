@@ -1,4 +1,4 @@
--- 01's cases B1 to B3 as their records, played: the answer, the registers, and B2's and B3's lines; refusals, and small fills.
+-- 01's cases B1 to B3 as their records, played: the answer, the registers, and B2's and B3's lines; refusals, small fills, and what the registers say.
 use Prim.Native.Nat.{ℕ}
 use mathlib.Core.Path.{_≡_, refl}
 use mathlib.Core.Bool.{true, false}
