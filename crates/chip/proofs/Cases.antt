@@ -1,4 +1,4 @@
--- 01's cases B1 to B3 as their records, played: the answer, the registers, and B2's and B3's lines; refusals, and small fills.
+-- 01's cases B1 to B3 as their records, played: the answer, the registers, and B2's and B3's lines; refusals, small fills, and what the registers say.
 use Prim.Native.Nat.{ℕ}
 use mathlib.Core.Path.{_≡_, refl}
 use mathlib.Core.Bool.{true, false}
@@ -231,8 +231,8 @@ pub starts-known : started-by 0 0 0 0 0 1 ∷ started-by 2 0 0 0 0 1 ∷ started
 unfolding firstOf listed fits screenAfter blitAfter sourceFits startable span within admitRows refusal dueAfter dueOf chipAfter newChip
 starts-known = refl
 
--- in a memory of 128 bytes: 5, 6 and 7 are known, and the other numbers are not; an odd source is one of whole pixels at depth 8 alone, and an
--- odd destination too
+-- 21 in a memory of 128 bytes: 5, 6 and 7 are operations of the model, and 4, 8 or Bh are not; odd addresses, of the pattern too, are refused at
+-- depth 16 alone
 pub patterns-known : map (λ n. started-in 128 n 0 0 0 0 1) (5 ∷ 6 ∷ 7 ∷ 1 ∷ 4 ∷ 8 ∷ 9 ∷ 0xA ∷ 0xB ∷ 0xD ∷ 0xE ∷ 0xF ∷ [])
     ∷ map (λ n. started-in 128 n 1 0 0 0 1) (5 ∷ 6 ∷ 7 ∷ [])
     ∷ map (λ n. started-in 128 n 1 0 0 0 0x40001) (5 ∷ 6 ∷ 7 ∷ [])
@@ -267,8 +267,8 @@ pub starts-inside : started-by 0xC 0 1 2 1 1 ∷ started-by 0xC 0 2 2 1 1
 unfolding firstOf listed fits screenAfter blitAfter sourceFits startable span within admitRows refusal dueAfter dueOf chipAfter newChip
 starts-inside = refl
 
--- two lines of three pixels at each end of a memory of 64 or 128 bytes: the destination under 5, 6 and 7, the source under 5, and the pattern,
--- which is whole wherever its first pixel stands
+-- 22 under 5, 6 and 7, in memories of 64 to 128 bytes: a byte past the memory of the destination, of 5's source, or of the pattern, all of which
+-- is read wherever its first pixel stands
 pub patterns-inside : map (λ n. started-in 64 n 0 57 2 1 1) (5 ∷ 6 ∷ 7 ∷ [])
     ∷ map (λ n. started-in 64 n 0 58 2 1 1) (5 ∷ 6 ∷ 7 ∷ [])
     ∷ map (λ n. started-in 64 n 58 0 2 1 1) (5 ∷ 6 ∷ 7 ∷ [])

@@ -87,6 +87,20 @@ pub taken : (feeding 8 newPlayer (streamBytes (three 5)) line8
 unfolding firstOf firstPlace rowsAt recordBytes streamBytes recordAt getPixel putPixel bitwise pixels chipLine chipLines chipBlit blitOf wordPixel chipWord listed fits screenAfter blitAfter sourceFits startable span within mixBy fromBy jobOf writeOf started admitRows refusal dueAfter dueOf chipAfter effect newChip chipOf stateOf playerOf newPlayer recordTaken byteTaken bytesTaken blockRows keptBy fedWith feeding endRows keeping endedPlayer fedAll
 taken = (refl, refl, refl, refl, refl, refl, refl)
 
+-- ---- a transparent move of six bytes by two to the right that keeps where the byte is 2, cut within the record of its key; and a pattern fill,
+-- whose pattern does not lie in eight bytes, behind a fill
+abbrev moves : List Record
+moves = recordWith 0x8008 5 ∷ recordWith 0x8010 2 ∷ recordWith 0x8018 5 ∷ recordWith 0x8020 2 ∷ recordWith 0x8000 1 ∷ []
+
+abbrev patterned : List Record
+patterned = three 5 ++ (recordWith 0x8008 6 ∷ recordWith 0x8000 1 ∷ [])
+
+pub transparent-fed : (fedAll 8 newPlayer line8 (cutAt 30 (streamBytes moves)) .memory ≡ 1 ∷ 2 ∷ 1 ∷ 4 ∷ 1 ∷ 4 ∷ 1 ∷ 4 ∷ [])
+    × (feeding 8 newPlayer (streamBytes patterned) line8 .answer ≡ refusedBy 22 6)
+    × (feeding 8 newPlayer (streamBytes patterned) line8 .memory ≡ 1 ∷ 2 ∷ 3 ∷ 4 ∷ 5 ∷ 9 ∷ 9 ∷ 9 ∷ [])
+unfolding firstOf firstPlace rowsAt recordBytes streamBytes recordAt getPixel putPixel bitwise pixels chipLine chipLines chipBlit blitOf listed fits screenAfter blitAfter sourceFits startable span within mixBy fromBy jobOf started admitRows refusal dueAfter dueOf chipAfter effect newChip chipOf stateOf playerOf newPlayer recordTaken byteTaken bytesTaken blockRows keptBy fedWith feeding fedAll
+transparent-fed = (refl, refl, refl)
+
 -- ---- a refused record: its number and the count as place; the records before it have drawn, it writes no register, and the bytes behind it are
 -- dropped
 
