@@ -6,9 +6,9 @@ use mathlib.Core.Logic.{⊎-elim}
 use native.Mathlib.Omega.{arith}
 use native.Mathlib.Nat.{mul-zero, zero-mul, one-mul, add-mul, add-zero, mul-le-mul-right, sub-add-cancel, le-of-lt, div-lt-iff-lt-mul, lt-div-mul-add}
 use lib.Dec.{ltb}
-use borrow.Author.Tests.{ltb-true, ltb-false, lt-ltb, le-ltb}
+use borrow.Author.Tests.{ltb-true, lt-ltb, le-ltb}
 use Rattle.record.proofs.Choice.{below-or-not, and-left, and-right}
-use Rattle.command.specs.Sharing.{Lines, meet, anyOf, shareByte}
+use Rattle.command.specs.Sharing.{meet, anyOf, shareByte}
 use Rattle.command.proofs.Sharing.{same-truth, any-found, any-holds, Meets, meet-true, meets-true}
 use Rattle.command_share.specs.Run.{linesMeet, firstPast}
 
