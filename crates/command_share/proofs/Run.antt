@@ -6,13 +6,13 @@ use mathlib.Core.Logic.{⊎-elim}
 use native.Mathlib.Omega.{arith}
 use native.Mathlib.Nat.{mul-zero, zero-mul, one-mul, add-mul, add-zero, mul-le-mul-right, sub-add-cancel, le-of-lt, div-lt-iff-lt-mul, lt-div-mul-add}
 use lib.Dec.{ltb}
-use borrow.Author.Tests.{ltb-true, ltb-false, lt-ltb, le-ltb}
+use borrow.Author.Tests.{ltb-true, lt-ltb, le-ltb}
 use Rattle.record.proofs.Choice.{below-or-not, and-left, and-right}
-use Rattle.command.specs.Sharing.{Lines, meet, anyOf, shareByte}
+use Rattle.command.specs.Sharing.{meet, anyOf, shareByte}
 use Rattle.command.proofs.Sharing.{same-truth, any-found, any-holds, Meets, meet-true, meets-true}
 use Rattle.command_share.specs.Run.{linesMeet, firstPast}
 
--- ---- one test instead of two comparisons of ends
+-- ---- two runs of bytes meet when each starts before the other ends and neither is empty
 pub meet-is : (a n b k : ℕ) → ((ltb a (b + k) && ltb b (a + n)) && (ltb 0 n && ltb 0 k)) ≡ meet a n b k
 meet-is a n b k =
     same-truth _ (meet a n b k)
@@ -35,15 +35,15 @@ meet-is a n b k =
 
 -- ---- the first line that ends past a
 module _ (at line size a : ℕ) where
-  pub first-none : a < at + size → firstPast at line size a ≡ 0
+  pub first-is-0 : a < at + size → firstPast at line size a ≡ 0
   unfolding firstPast
-  first-none h = rw (lt-ltb a (at + size) h)
+  first-is-0 h = rw (lt-ltb a (at + size) h)
 
-  pub first-some : at + size ≤ a → firstPast at line size a ≡ (a - (at + size)) / line + 1
+  pub first-is-later : at + size ≤ a → firstPast at line size a ≡ (a - (at + size)) / line + 1
   unfolding firstPast
-  first-some h = rw (le-ltb a (at + size) h)
+  first-is-later h = rw (le-ltb a (at + size) h)
 
-  -- lines one upon another do not end past a one by one
+  -- a later line ends past a where the first does not: so they do not all stand in one place
   apart-lines : (j : ℕ) → at + size ≤ a → a < at + j * line + size → 0 < line
   apart-lines j h k = positive line refl
     where
@@ -51,19 +51,19 @@ module _ (at line size a : ℕ) where
       positive zero e = let z : j * line ≡ 0 = rw (e, mul-zero) in absurd (omega arith)
       positive (suc l) e = omega arith
 
-  -- no line that ends past a comes before it, and it does itself
+  -- it ends past a, and no earlier line does
   first-least : (j : ℕ) → a < at + j * line + size → (firstPast at line size a ≤ j) × (a < at + firstPast at line size a * line + size)
   first-least j k = ⊎-elim early late (below-or-not a (at + size))
     where
       early : a < at + size → (firstPast at line size a ≤ j) × (a < at + firstPast at line size a * line + size)
-      early h = rw (first-none h, zero-mul) (omega arith, omega arith)
+      early h = rw (first-is-0 h, zero-mul) (omega arith, omega arith)
 
       late : at + size ≤ a → (firstPast at line size a ≤ j) × (a < at + firstPast at line size a * line + size)
       late h =
           let l = apart-lines j h k in
           let d : (a - (at + size)) / line < j = div-lt-iff-lt-mul l .1 (omega arith) in
           let m : a - (at + size) < (a - (at + size)) / line * line + line = lt-div-mul-add l in
-          rw (first-some h) (omega arith, rw (add-mul, one-mul) (omega arith))
+          rw (first-is-later h) (omega arith, rw (add-mul, one-mul) (omega arith))
 
 -- ---- one line decides
 pub by-first : (at line size count a n : ℕ) → linesMeet at line size count a n ≡ (ltb (firstPast at line size a) count && meet (at + firstPast at line size a * line) size a n)
@@ -81,7 +81,7 @@ by-first at line size count a n =
         rw (lt-ltb (firstPast at line size a) count (omega arith))
         (meets-true (at + firstPast at line size a * line) size a n (record { some = m .some; any = m .any; before = omega arith; after = f .1 }))
 
--- the two ways that the line's number can fall
+-- the same as code asks: there is no such line, or it is compared
 pub line-beyond : (at line size count a n j : ℕ) → j ≡ firstPast at line size a → count ≤ j → false ≡ linesMeet at line size count a n
 line-beyond at line size count a n j e h = rw (by-first, ← e, le-ltb j count h)
 

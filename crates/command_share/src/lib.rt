@@ -20,7 +20,7 @@ fn is_met(a: u64, n: u32, b: u64, k: u32) -> bool
     (ahead & behind) & ((0 < n) & (0 < k))
 }
 
-// The first of the lines that ends past address a.
+// The number of the first line that ends past address a.
 fn first_past(at: u64, line: u32, size: u32, a: u64) -> u64
     requires { ⌜ (at ≤ 0x4000000000000) × (a ≤ 0x4000000000000) ⌝ }
     ensures { λ r. ⌜ r ≡ firstPast at line size a ⌝ }
@@ -78,7 +78,7 @@ fn is_source_shared(s: Screen, c: Command) -> bool
     lines_meet(source, on.line, size, c.height, destination, size)
 }
 
-// Refusal 29: whether the command would draw over what it has yet to read.
+// Refusal 29: whether the destination shares a byte with the pattern, or with a transparent move's source at a lower address.
 pub fn is_clash(s: Screen, c: Command) -> bool
     ensures { λ r. ⌜ r ≡ clashes s c ⌝ }
 {

@@ -1,4 +1,4 @@
-use mathlib.Core.Path.{_≡_, refl, sym, _∙_}
+use mathlib.Core.Path.{refl, sym, _∙_}
 use native.Mathlib.Omega.{arith}
 use Rattle.record.proofs.Choice.{yes, no, tested}
 use Rattle.command.proofs.Operation.{by-fill, by-move, by-write, by-pattern, by-keyed, by-other}
