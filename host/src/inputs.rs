@@ -450,13 +450,14 @@ fn damage_command(rng: &mut Rng, part: &mut [u8]) {
 
 /// Changes a field of a long command with operation 3 to 5.
 fn damage_new(rng: &mut Rng, part: &mut [u8]) {
-    let (byte, number) = (rng.pick(&[1, 7, 8, 12, 16, 128, 255]), rng.pick(&[1, 255, 256, 0x5A5A]));
+    let (byte, number) =
+        (rng.pick(&[1, 7, 8, 8, 8, 12, 16, 16, 128, 255]), rng.pick(&[1, 255, 256, 0x5A5A]));
     match rng.below(12) {
         0 => part[2] = byte,
         1 => set(part, rng.pick(&[12, 14]), 2, number),
         2 => set(part, 16, 2, number),
         3 => set(part, 32, 2, number),
-        9 => set(part, 32, 2, rng.pick(&[256, 511, 0x5A5A])),
+        9 => set(part, 32, 2, rng.pick(&[256, 256, 256, 0x5A5A])),
         10 => set(part, rng.pick(&[8, 10]), 2, 0),
         4 => part[34] = byte,
         5 => part[35] = byte,
@@ -505,9 +506,9 @@ pub fn damage(rng: &mut Rng, drawing: &mut Drawing) {
     let Drawing { form, screen, list, words, room } = drawing;
     let size = if matches!(form, 32 | 48) { *form as usize } else { 32 };
     let commands = list.len() / size;
-    match rng.below(24) {
+    match rng.below(if size == 48 { 32 } else { 24 }) {
         0..=6 => damage_screen(rng, screen),
-        7..=13 if commands > 0 => {
+        7..=13 | 24.. if commands > 0 => {
             let at = size * rng.below(commands as u64) as usize;
             damage_command(rng, &mut list[at..at + size]);
         }
