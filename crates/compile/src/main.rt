@@ -1,7 +1,7 @@
 // compile [--long] SCREEN LIST [WORDS]
 // compile [--long] 13706 SCREEN [LIST [WORDS]]
 // Compiles the screen record, the command list and the host words of the named files, and prints the stream, a line for each
-// record: its number and its value. A refusal is the one line `refused NUMBER PLACE: REASON` and, for 12 to 15, a line with the
+// record: its number and its value. A refusal is the one line `refused NUMBER PLACE: REASON` and, for 12 to 15 and 29, a line with the
 // bytes of the refused command. Where a file cannot be read, or its words not be taken, standard output stays empty.
 //
 // --long: LIST has records of 48 bytes. The word 13706 compiles for the older S1D13706 (a file of that name is ./13706, one called --long is ./--long), whose LIST is empty where it is left out or

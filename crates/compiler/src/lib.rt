@@ -6,7 +6,7 @@ pub enum Compiled {
     Refused(u32, u64),
 }
 
-// What the first pass finds: number and place of the first refusal of 12 to 15, or the host words that are taken.
+// What the first pass finds: number and place of the first refusal of 12 to 15 and 29, or the host words that are taken.
 pub struct Pass {
     pub number: u32,
     pub place: u64,
