@@ -30,11 +30,28 @@ put-number-requires c κs = search needs
 
 returns-2 : tie.Need-returns-2
 unfolding deskAfter
-returns-2 c = no _ (ne-eqb _ _ (c .before .before .before .before .before .before .if1 .left)) (yes _ (eq-eqb _ _ (c .before .before .before .before .before .if2 .taken)) (c .put-number .ensures ∙ ap (λ (l : List ℕ). numberPut l 64 1) (c .before .before .put-fields2 .ensures)))
+returns-2 c = no _ (ne-eqb _ _ (c .before .before .before .before .before .before .if1 .left)) (yes _ (eq-eqb _ _ (c .before .before .before .before .before .if2 .taken)) (c .put-number .ensures ∙ ap (λ (l : List ℕ). numberPut l 80 1) (c .before .before .put-fields2 .ensures)))
+
+slice-aggregate-put-fields-3 : tie.Need-slice-aggregate-put-fields-3
+slice-aggregate-put-fields-3 c = search needs
+
+put-fields-requires-3 : tie.Need-put-fields-requires-3
+put-fields-requires-3 c κs = search needs
+
+put-number-requires-2 : tie.Need-put-number-requires-2
+put-number-requires-2 c κs = search needs
 
 returns-3 : tie.Need-returns-3
 unfolding deskAfter
-returns-3 c = no _ (ne-eqb _ _ (c .before .if1 .left)) (no _ (ne-eqb _ _ (c .if2 .left)) refl)
+returns-3 c =
+    no _ (ne-eqb _ _ (c .before .before .before .before .before .before .before .if1 .left))
+    (no _ (ne-eqb _ _ (c .before .before .before .before .before .before .if2 .left))
+    (yes _ (eq-eqb _ _ (c .before .before .before .before .before .if3 .taken))
+    (c .put-number2 .ensures ∙ ap (λ (l : List ℕ). numberPut l 88 1) (c .before .before .put-fields3 .ensures))))
+
+returns-4 : tie.Need-returns-4
+unfolding deskAfter
+returns-4 c = no _ (ne-eqb _ _ (c .before .before .if1 .left)) (no _ (ne-eqb _ _ (c .before .if2 .left)) (no _ (ne-eqb _ _ (c .if3 .left)) refl))
 
 pub set-desk-spec : {M : Type 1} → statement M
 set-desk-spec =
@@ -47,4 +64,8 @@ set-desk-spec =
     put-fields-requires-2
     put-number-requires
     returns-2
-    returns-3)
+    slice-aggregate-put-fields-3
+    put-fields-requires-3
+    put-number-requires-2
+    returns-3
+    returns-4)
