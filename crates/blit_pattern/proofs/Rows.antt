@@ -1,15 +1,14 @@
 -- The rows of a pattern: as they are read, and the pixel that they make in each column of each line.
 use mathlib.Core.Path.{_≡_, refl, sym, ap, ap₂, _∙_}
 use mathlib.Core.Logic.{⊎-elim}
-use mathlib.Core.List.{List, [], _∷_}
-use Prim.Native.Nat.{ℕ, zero, suc, _+_, _*_, _%_, _^_, _≤_, _<_}
+use mathlib.Core.List.{List, []}
+use Prim.Native.Nat.{ℕ, zero, suc, _+_, _*_, _%_, _^_, _<_}
 use native.Mathlib.Nat.{add-mul, mod-add-mod, mod-eq-of-lt, mod-lt, mul-assoc}
 use native.Mathlib.Omega.{arith}
 use lib.Dec.{lit<}
 use lib.ListN.{length, getD, set}
 use lib.Seq.{ext-getD, getD-set-other, getD-set-same}
-use Rattle.record.specs.Lists.{tabulate}
-use Rattle.record.proofs.Lists.{length-tabulate, getD-tabulate}
+use Rattle.record.proofs.Lists.{getD-tabulate}
 use Rattle.pixel.specs.Pixel.{getPixel}
 use Rattle.pixel.proofs.Pixels.{get-lt}
 use Rattle.blit.specs.Job.{patternPixel}

@@ -1,4 +1,4 @@
-use Prim.Native.Nat.{ℕ, _+_, _-_, _*_}
+use Prim.Native.Nat.{_+_, _-_, _*_}
 use native.Mathlib.Omega.{arith}
 use Rattle.blit_code.proofs.Lines.{fill-back, line-bytes, to-room, to-zero}
 use borrow.Author.Needs.{needs}

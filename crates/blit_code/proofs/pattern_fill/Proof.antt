@@ -1,5 +1,4 @@
 use native.Mathlib.Nat.{mod-lt}
-use native.Mathlib.Omega.{arith}
 use lib.Dec.{lit<}
 use Rattle.blit_code.proofs.Lines.{of-pattern, rows-fill}
 use borrow.Author.Needs.{needs}

@@ -1,6 +1,5 @@
-use mathlib.Core.Path.{_≡_, ap, _∙_}
-use mathlib.Core.Bool.{Bool}
-use Prim.Native.Nat.{ℕ, _-_, _+_, _*_, _≤_, max}
+use mathlib.Core.Path.{_∙_}
+use Prim.Native.Nat.{_≤_, max}
 use native.Mathlib.Nat.{mul-le-mul}
 use native.Mathlib.Omega.{arith}
 use Rattle.blit_code.proofs.Lines.{line-bytes, rows-line, to-room, to-zero}

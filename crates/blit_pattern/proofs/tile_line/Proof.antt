@@ -1,5 +1,5 @@
-use mathlib.Core.Path.{_∙_, ap}
-use Prim.Native.Nat.{ℕ, _≤_, max}
+use mathlib.Core.Path.{_∙_}
+use Prim.Native.Nat.{_≤_, max}
 use native.Mathlib.Nat.{mul-le-mul}
 use native.Mathlib.Omega.{arith}
 use Rattle.blit_pattern.proofs.Tiles.{row-tiled}
