@@ -119,7 +119,7 @@ fn is_unused_zero(c: Command) -> bool
     (c.raster == 0) & ((c.colour == 0) & ((c.px == 0) & ((c.py == 0) & (c.pattern == 0))))
 }
 
-// Where a long record's zeros begin.
+// Where the bytes begin that a long record keeps zero.
 fn zeros_from(operation: u8) -> usize
     ensures { λ r. ⌜ r ≡ zerosFrom operation ⌝ }
 {
@@ -129,7 +129,7 @@ fn zeros_from(operation: u8) -> usize
     40
 }
 
-// Whether a long record's zeros are zero; a short one has none.
+// Whether a long record's last bytes are zero; a short record has none of them.
 fn is_past_zero(operation: u8, b: &[u8]) -> bool
     ensures { λ r. ⌜ r ≡ allZero (drop (zerosFrom operation) (now (b .entry))) ⌝ }
 {
@@ -138,6 +138,7 @@ fn is_past_zero(operation: u8, b: &[u8]) -> bool
     record_code::all_zero(&b[from..n])
 }
 
+// Bytes of display memory of the S1D13A05.
 const MEMORY_SIZE: u64 = 262144;
 
 // Whether a pattern and its first pixel are where they can be.
