@@ -448,8 +448,8 @@ fn main() {
         }
     }
 
-    // The pattern lies in the first lines, above the rectangle; of the key colour is half of its pixels
-    // at depth 8, a quarter at 16, and so is it of what is moved.
+    // The pattern lies in the first lines, above the rectangle. Where there is a key colour, half of its
+    // pixels have it at depth 8, a quarter at 16; and so have those that are moved.
     let key = |depth: u8| u16::from_le_bytes([POOR[1], if depth == 8 { 0 } else { POOR[1] }]);
     for (code, name) in [(0xC, ""), (6, " under exclusive or")] {
         for (depth, screen, x, width) in [(8, &bytes, 8, 496), (16, &words, 4, 248)] {
