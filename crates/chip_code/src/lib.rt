@@ -41,11 +41,10 @@ fn mix_by(b: Registers) -> Mix
 fn pattern_of(b: Registers) -> From
     ensures { λ r. ⌜ r ≡ Pattern (patternBase b) (patternColumn b) (patternLine b) ⌝ }
 {
-    From::Pattern(
-        chip_due::pattern_base(b),
-        chip_due::pattern_column(b),
-        chip_due::pattern_line(b),
-    )
+    let base = chip_due::pattern_base(b);
+    let column = chip_due::pattern_column(b);
+    let line = chip_due::pattern_line(b);
+    From::Pattern(base, column, line)
 }
 
 // Where the source pixels of a move, a pattern fill or a fill are.
