@@ -119,22 +119,16 @@ fn is_unused_zero(c: Command) -> bool
     (c.raster == 0) & ((c.colour == 0) & ((c.px == 0) & ((c.py == 0) & (c.pattern == 0))))
 }
 
-// Where the bytes begin that a long record keeps zero.
-fn zeros_from(operation: u8) -> usize
-    ensures { λ r. ⌜ r ≡ zerosFrom operation ⌝ }
-{
-    if operation <= 2 {
-        return 32;
-    }
-    40
-}
-
-// Whether a long record's last bytes are zero; a short record has none of them.
+// Whether a long record's last bytes are zero, from byte 32 on or behind the pattern's fields; a short record has none of them.
 fn is_past_zero(operation: u8, b: &[u8]) -> bool
+    requires { ⌜ isForm (length (now b)) ≡ true ⌝ }
     ensures { λ r. ⌜ r ≡ allZero (drop (zerosFrom operation) (now (b .entry))) ⌝ }
 {
     let n = b.len();
-    let from = record_code::least(zeros_from(operation), n);
+    if operation <= 2 {
+        return record_code::all_zero(&b[32..n]);
+    }
+    let from = record_code::least(40, n);
     record_code::all_zero(&b[from..n])
 }
 
