@@ -119,17 +119,20 @@ fn is_unused_zero(c: Command) -> bool
     (c.raster == 0) & ((c.colour == 0) & ((c.px == 0) & ((c.py == 0) & (c.pattern == 0))))
 }
 
-// Whether a long record's last bytes are zero, from byte 32 on or behind the pattern's fields; a short record has none of them.
+// Whether a long record's last bytes are zero, from byte 32 on or behind the pattern's fields; a short record has none of them. They are taken
+// four at a time.
 fn is_past_zero(operation: u8, b: &[u8]) -> bool
     requires { ⌜ isForm (length (now b)) ≡ true ⌝ }
     ensures { λ r. ⌜ r ≡ allZero (drop (zerosFrom operation) (now (b .entry))) ⌝ }
 {
-    let n = b.len();
-    if operation <= 2 {
-        return record_code::all_zero(&b[32..n]);
+    if b.len() < 48 {
+        return true;
     }
-    let from = record_code::least(40, n);
-    record_code::all_zero(&b[from..n])
+    let last = (record_code::u32_at(b, 40) == 0) & (record_code::u32_at(b, 44) == 0);
+    if operation <= 2 {
+        return (record_code::u32_at(b, 32) == 0) & ((record_code::u32_at(b, 36) == 0) & last);
+    }
+    last
 }
 
 // Bytes of display memory of the S1D13A05.
