@@ -2,10 +2,11 @@
 use mathlib.Core.Path.{_≡_, refl, sym, ap, ap₂, _∙_, subst, fun-ext}
 use mathlib.Core.Bool.{Bool, true, false}
 use mathlib.Core.List.{List, [], _++_}
-use Prim.Native.Nat.{ℕ, suc, _+_, _-_, _*_, _/_, _%_, _≤_, _<_, max}
-use native.Mathlib.Nat.{add-mul, dvd-add, dvd-mul-left, dvd-mul-left-of-dvd, dvd-of-mod-eq-zero, dvd-refl, dvd-sub, mod-eq-zero-of-dvd, mul-le-mul, mul-le-mul-right, suc-mul}
+use Prim.Native.Nat.{ℕ, zero, suc, _+_, _-_, _*_, _/_, _%_, _≤_, _<_, max}
+use native.Mathlib.Nat.{add-mul, dvd-add, dvd-mul-left, dvd-mul-left-of-dvd, dvd-of-mod-eq-zero, dvd-refl, dvd-sub, mod-eq-zero-of-dvd, mod-lt, mul-le-mul, mul-le-mul-right, suc-mul}
 use native.Mathlib.Omega.{arith}
 use borrow.Author.Tests.{lt-ltb, le-ltb}
+use lib.Dec.{lit<}
 use lib.ListN.{length, getD, take, drop}
 use Rattle.pixel.specs.Pixel.{getPixel}
 use Rattle.blit.specs.Blit.{Source, given, memory as inMemory, towards, along, sourcePixel, pixels, chipLine, chipLines, chipBlit}
@@ -16,11 +17,12 @@ use Rattle.blit.specs.declared.Mix.the-variants.{Store}
 use Rattle.blit.specs.declared.From.{From}
 use Rattle.blit.specs.declared.From.the-variants.{Colour, Memory, Pattern}
 use Rattle.blit.specs.declared.Job.{Job}
-use Rattle.blit.proofs.Runs.{pixels-ext}
-use Rattle.blit_pattern.specs.Pattern.{patternRows, rowsPixel}
+use Rattle.blit.proofs.Runs.{pixels-ext, step-fits}
+use Rattle.blit_pattern.specs.Pattern.{patternRows, rowsPixel, tiledLines}
+use Rattle.blit_pattern.proofs.Parts.{lines-pixel, part-pixel}
 use Rattle.blit_pattern.proofs.Rows.{rows-from, rows-pixel}
 use Rattle.blit_pattern.proofs.Tiles.{stored-pixel}
-use Rattle.blit_code.specs.Lines.{lagOf, lowEnd, AboveZero}
+use Rattle.blit_code.specs.Lines.{lagOf, linesPixel, lowEnd, AboveZero}
 use Rattle.blit_code.proofs.Lift.{fill-put-back, put-back, sourced-move}
 
 -- ---- lags
@@ -199,6 +201,22 @@ rows-line job memory ok rows x y j d old source hj up ed room es =
     ap (λ (s : List ℕ). getPixel (job .bytes) s (i * job .bytes)) es
     ∙ stored-pixel (job .bytes) (λ n. getD (getD rows ((y + j) % 8) []) ((x + n) % 8) 0) old (max 16 (job .width)) i (omega arith) room)
 
+-- a line of eight source lines, from the part of them that it draws
+pub part-line : (job : Job) (memory : List ℕ) → JobOk (length memory) job → (j d size : ℕ) (lines : List ℕ) → j < job .height → job .down ≡ false
+    → d ≡ low job (job .destination) j → size ≡ 2048 → 16384 ≤ length lines
+    → pixels (job .bytes) (mixOf (job .mix) (job .bytes)) (λ i. d + i * job .bytes)
+    (λ m i. getPixel (job .bytes) (take size (drop (j % 8 * 2048) lines)) (i * job .bytes)) (job .width) memory
+    ≡ chipLine (blitOf job (given (λ i k. linesPixel (job .bytes) lines i k))) (towards (job .down)) j (job .width) memory
+unfolding linesPixel
+part-line job memory ok j d size lines hj up ed es room =
+    let part : ℕ = j % 8 in
+    let eighth : part < 8 = mod-lt j (lit< tt) in
+    given-line job memory ok (λ i k. linesPixel (job .bytes) lines i k) j d
+    (λ m i. getPixel (job .bytes) (take size (drop (part * 2048) lines)) (i * job .bytes)) hj up ed
+    (λ m i h.
+    part-pixel (job .bytes) (part * 2048) size lines (i * job .bytes) (omega arith)
+    (omega (arith, step-fits (job .bytes) i (job .width) h, mul-le-mul (ok .width) (ok .few-bytes))))
+
 -- a line of a move
 pub move-back : (job : Job) (memory : List ℕ) → JobOk (length memory) job → (j a s d k lag : ℕ) (old source l′ : List ℕ) → j < job .height
     → job .from ≡ Memory a → s ≡ low job a j → d ≡ low job (job .destination) j → k ≡ job .width * job .bytes
@@ -252,6 +270,30 @@ module _ (job : Job) (source : Source) where
   lines-end j old m e h = e ∙ ap (λ (k : ℕ). lines k old) h
 
 -- ---- the whole job
+
+-- of a source that is known before only the pixels of the rectangle's columns are drawn
+same-lines : (job : Job) (f g : ℕ → ℕ → ℕ) → ((i j : ℕ) → i < job .width → f i j ≡ g i j) → (n : ℕ) (old : List ℕ)
+    → lines job (given f) n old ≡ lines job (given g) n old
+unfolding chipLines chipLine blitOf
+same-lines job f g same zero old = refl
+same-lines job f g same (suc n) old =
+    let place : ℕ → ℕ = λ i. along (towards (job .down)) (job .destination) (n * job .line + i * job .bytes) in
+    pixels-ext (job .bytes) (mixOf (job .mix) (job .bytes)) place place (λ x i. f i n) (λ x i. g i n) (job .width) (lines job (given f) n old)
+    (λ i h. refl) (λ x i h. same i n h)
+    ∙ ap (pixels (job .bytes) (mixOf (job .mix) (job .bytes)) place (λ x i. g i n) (job .width)) (same-lines job f g same n old)
+
+-- from eight source lines that are a pattern's rows, tiled, all its lines
+pub tiled-fill : (job : Job) (rows : List (List ℕ)) (x y : ℕ) (blank source old m : List ℕ) → job .bytes ≤ 2 → job .width ≤ 1024 → 16384 ≤ length blank
+    → source ≡ tiledLines (job .bytes) rows x y (job .width) 8 blank
+    → m ≡ chipBlit (blitOf job (given (λ i k. linesPixel (job .bytes) source i k))) (towards (job .down)) old
+    → m ≡ chipBlit (blitOf job (given (λ i k. rowsPixel (job .bytes) rows (x + i) (y + k)))) (towards (job .down)) old
+unfolding linesPixel chipBlit blitOf
+tiled-fill job rows x y blank source old m few wide room es e =
+    e
+    ∙ same-lines job (λ i k. linesPixel (job .bytes) source i k) (λ i k. rowsPixel (job .bytes) rows (x + i) (y + k))
+    (λ i k h.
+    ap (λ (s : List ℕ). linesPixel (job .bytes) s i k) es ∙ lines-pixel (job .bytes) rows x y (job .width) few wide i k blank h room)
+    (job .height) old
 
 -- from the rows that are read before its first pixel, a pattern fill
 pub rows-fill : (job : Job) (rows : List (List ℕ)) (a x y : ℕ) (old m : List ℕ) → ((k : ℕ) → getD old k 0 < 256) → rows ≡ patternRows (job .bytes) old a

@@ -10,7 +10,7 @@ ghost use Rattle.blit.specs.Job.{mixOf, patternPixel, blitOf, performed, JobOk}
 ghost use Rattle.blit.specs.Line.{straightLine, copied};
 ghost use Rattle.blit.specs.declared.From.the-variants.{Colour, Memory, Pattern};
 ghost use Rattle.blit_pattern.specs.Pattern.{rowsPixel};
-ghost use Rattle.blit_code.specs.Lines.{lagOf, lowEnd, AboveZero};
+ghost use Rattle.blit_code.specs.Lines.{lagOf, linesPixel, lowEnd, AboveZero};
 use blit::From;
 use blit::Job;
 use blit::Mix;
@@ -87,7 +87,7 @@ pub fn put_line(bytes: usize, mix: Mix, at: usize, count: usize, source: &[u8], 
 }
 
 // Line j of a pattern fill from its rows, column x and line y of them first; source is room for its source line.
-fn pattern_line(
+fn row_line(
     job: Job,
     j: usize,
     rows: [[u16; 8]; 8],
@@ -105,6 +105,18 @@ fn pattern_line(
     let at = low_end(job.down, job.bytes, job.line, job.width, job.destination, j);
     let mix = job.mix;
     put_line(job.bytes, mix, at, job.width, source, memory);
+}
+
+// Line j of a pattern fill from its eight source lines, side by side, each of 2048 bytes.
+fn pattern_line(job: Job, j: usize, lines: &[u8], memory: &mut [u8])
+    requires { ⌜ JobOk (length (now memory)) job × (j < job .height) × (job .down ≡ false) × (16384 ≤ length (now lines)) ⌝ }
+    ensures { λ _. ⌜ now (memory .exit) ≡ chipLine (blitOf job (given (λ i k. linesPixel (job .bytes) (now (lines .entry)) i k))) (towards (job .down)) j (job .width) (now (memory .entry)) ⌝ }
+{
+    let at = low_end(job.down, job.bytes, job.line, job.width, job.destination, j);
+    let mix = job.mix;
+    let part = j % 8 * 2048;
+    let e = part + 2048;
+    put_line(job.bytes, mix, at, job.width, &lines[part..e], memory);
 }
 
 // All lines of a blit of one colour.
@@ -132,15 +144,29 @@ fn move_lines(job: Job, from: u32, memory: &mut [u8])
     }
 }
 
-// All lines of a pattern fill from its rows.
-fn pattern_lines(job: Job, rows: [[u16; 8]; 8], x: usize, y: usize, memory: &mut [u8])
+// All lines of a pattern fill from its rows, where they are few: each makes its own source line.
+fn few_lines(job: Job, rows: [[u16; 8]; 8], x: usize, y: usize, memory: &mut [u8])
     requires { ⌜ JobOk (length (now memory)) job × (job .down ≡ false) × (x < 8) × (y < 8) ⌝ }
     ensures { λ _. ⌜ now (memory .exit) ≡ chipBlit (blitOf job (given (λ i k. rowsPixel (job .bytes) rows (x + i) (y + k)))) (towards (job .down)) (now (memory .entry)) ⌝ }
 {
     let mut source = [0u8; 2048];
     let mut j = 0;
     while j < job.height {
-        pattern_line(job, j, rows, x, y, &mut source, memory);
+        row_line(job, j, rows, x, y, &mut source, memory);
+        j += 1;
+    }
+}
+
+// All lines of a pattern fill from its rows: its source lines repeat every eight, and are made once.
+fn pattern_lines(job: Job, rows: [[u16; 8]; 8], x: usize, y: usize, memory: &mut [u8])
+    requires { ⌜ JobOk (length (now memory)) job × (job .down ≡ false) × (x < 8) × (y < 8) ⌝ }
+    ensures { λ _. ⌜ now (memory .exit) ≡ chipBlit (blitOf job (given (λ i k. rowsPixel (job .bytes) rows (x + i) (y + k)))) (towards (job .down)) (now (memory .entry)) ⌝ }
+{
+    let mut lines = [0u8; 16384];
+    blit_pattern::tile_lines(rows, job.bytes, x, y, job.width, &mut lines);
+    let mut j = 0;
+    while j < job.height {
+        pattern_line(job, j, &lines, memory);
         j += 1;
     }
 }
@@ -151,7 +177,13 @@ fn pattern_fill(job: Job, at: u32, x: u32, y: u32, memory: &mut [u8])
     ensures { λ _. ⌜ now (memory .exit) ≡ chipBlit (blitOf job (given (λ i k. patternPixel (job .bytes) (now (memory .entry)) at (x + i) (y + k)))) (towards (job .down)) (now (memory .entry)) ⌝ }
 {
     let rows = blit_pattern::read_pattern(memory, job.bytes, at as usize);
-    pattern_lines(job, rows, (x % 8) as usize, (y % 8) as usize, memory);
+    let column = (x % 8) as usize;
+    let row = (y % 8) as usize;
+    if job.height <= 8 {
+        few_lines(job, rows, column, row, memory);
+    } else {
+        pattern_lines(job, rows, column, row, memory);
+    }
 }
 
 // A blit over the lent memory.

@@ -1,2 +1,3 @@
+pub mod Parts
 pub mod Rows
 pub mod Tiles

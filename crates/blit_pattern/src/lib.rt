@@ -1,11 +1,11 @@
-// Patterns: the rows of an 8 × 8 pattern, read from memory, and a source line that repeats one of them.
+// Patterns: the rows of an 8 × 8 pattern, read from memory, and source lines that repeat them.
 ghost use mathlib.Core.Path.{_≡_};
 ghost use Prim.Native.Nat.{_+_, _-_, _*_, _%_, _≤_, _<_, max};
 ghost use lib.ListN.{length, getD};
 ghost use Rattle.pixel.specs.Pixel.{getPixel};
 ghost use Rattle.blit.specs.Blit.{pixels};
 ghost use Rattle.blit.specs.Line.{straightLine};
-ghost use Rattle.blit_pattern.specs.Pattern.{rowAt, patternRows};
+ghost use Rattle.blit_pattern.specs.Pattern.{rowAt, patternRows, tiledLines};
 
 // A row of eight pixels.
 fn read_row(memory: &[u8], bytes: usize, at: usize) -> [u16; 8]
@@ -48,6 +48,18 @@ fn first_pixels(row: [u16; 8], bytes: usize, x: usize, line: &mut [u8])
     }
 }
 
+// The same, with the bytes of a pixel as a constant of the loop.
+fn first_worker(row: [u16; 8], bytes: usize, x: usize, line: &mut [u8])
+    requires { ⌜ (0 < bytes) × (bytes ≤ 2) × (x < 8) × (16 * bytes ≤ length (now line)) ⌝ }
+    ensures { λ _. ⌜ now (line .exit) ≡ straightLine bytes (λ s d. s) (λ i. getD row ((x + i) % 8) 0) 16 (now (line .entry)) ⌝ }
+{
+    if bytes == 1 {
+        first_pixels(row, 1, x, line);
+    } else {
+        first_pixels(row, 2, x, line);
+    }
+}
+
 // The pixels of a line from the sixteenth on, each the one sixteen before it.
 fn repeat_pixels(line: &mut [u8], bytes: usize, width: usize)
     requires { ⌜ (0 < bytes) × (bytes ≤ 2) × (width * bytes ≤ length (now line)) ⌝ }
@@ -78,6 +90,28 @@ pub fn tile_line(row: [u16; 8], bytes: usize, x: usize, width: usize, line: &mut
     requires { ⌜ (0 < bytes) × (bytes ≤ 2) × (x < 8) × (width ≤ 1024) × (2048 ≤ length (now line)) ⌝ }
     ensures { λ _. ⌜ now (line .exit) ≡ straightLine bytes (λ s d. s) (λ i. getD row ((x + i) % 8) 0) (max 16 width) (now (line .entry)) ⌝ }
 {
-    first_pixels(row, bytes, x, line);
+    first_worker(row, bytes, x, line);
     repeat_worker(line, bytes, width);
+}
+
+// Eight lines side by side, each of 2048 bytes: one for each row, row y first, from column x on.
+pub fn tile_lines(
+    rows: [[u16; 8]; 8],
+    bytes: usize,
+    x: usize,
+    y: usize,
+    width: usize,
+    lines: &mut [u8],
+)
+    requires { ⌜ (0 < bytes) × (bytes ≤ 2) × (x < 8) × (y < 8) × (width ≤ 1024) × (16384 ≤ length (now lines)) ⌝ }
+    ensures { λ _. ⌜ now (lines .exit) ≡ tiledLines bytes rows x y width 8 (now (lines .entry)) ⌝ }
+{
+    let mut k = 0;
+    while k < 8 {
+        let row = rows[(y + k) % 8];
+        let at = k * 2048;
+        let e = at + 2048;
+        tile_line(row, bytes, x, width, &mut lines[at..e]);
+        k += 1;
+    }
 }

@@ -7,8 +7,8 @@ use borrow.Author.Needs.{needs}
 use Rattle.blit_pattern.proofs.tile_line.Statement.{statement}
 use Rattle.blit_pattern.proofs.tile_line.Tie as tie
 
-first-pixels-requires : tie.Need-first-pixels-requires
-first-pixels-requires c κs = search needs
+first-worker-requires : tie.Need-first-worker-requires
+first-worker-requires c κs = search needs
 
 repeat-worker-requires : tie.Need-repeat-worker-requires
 repeat-worker-requires c κs =
@@ -26,8 +26,8 @@ returns c =
     let p = first .before .before .before .pre in
     let few : max 16 (a .width) ≤ 1024 = omega arith in
     repeated .repeat-worker .ensures
-    ∙ row-tiled (a .bytes) (a .row) (a .x) (a .width) (a .line .now) _ (omega (arith, mul-le-mul few (p .1))) (first .first-pixels .ensures)
+    ∙ row-tiled (a .bytes) (a .row) (a .x) (a .width) (a .line .now) _ (omega (arith, mul-le-mul few (p .1))) (first .first-worker .ensures)
 
 pub tile-line-spec : {M : Type 1} → statement M
 tile-line-spec =
-    tie.close (tie.spec first-pixels-requires repeat-worker-requires same-length returns)
+    tie.close (tie.spec first-worker-requires repeat-worker-requires same-length returns)
