@@ -106,16 +106,41 @@ fn key_pixels(line: &mut [u8], bytes: usize, width: usize, key: u16, source: &[u
     }
 }
 
+// The source byte, or the destination byte where the source byte is the key colour.
+fn keyed_byte(key: u8, s: u8, d: u8) -> u8
+    ensures { λ r. ⌜ r ≡ cond (eqb s key) d s ⌝ }
+{
+    if s == key { d } else { s }
+}
+
+// The same at one byte to a pixel, and a key colour of one byte.
+fn key_bytes(line: &mut [u8], width: usize, key: u8, source: &[u8])
+    requires { ⌜ LineOk 1 width (now line) × (width ≤ length (now source)) ⌝ }
+    ensures { λ _. ⌜ now (line .exit) ≡ straightLine 1 (mixOf (Key key) 1) (λ i. getPixel 1 (now (source .entry)) (i * 1)) width (now (line .entry)) ⌝ }
+{
+    let mut i = 0;
+    while i < width {
+        let s = source[i];
+        let d = line[i];
+        line[i] = keyed_byte(key, s, d);
+        i += 1;
+    }
+}
+
 // The same, with the bytes of a pixel as a constant of the loop.
 fn key_worker(line: &mut [u8], bytes: usize, width: usize, key: u16, source: &[u8])
     requires { ⌜ LineOk bytes width (now line) × (width * bytes ≤ length (now source)) ⌝ }
     ensures { λ _. ⌜ now (line .exit) ≡ straightLine bytes (mixOf (Key key) bytes) (λ i. getPixel bytes (now (source .entry)) (i * bytes)) width (now (line .entry)) ⌝ }
 {
     if bytes == 1 {
+        if key < 256 {
+            key_bytes(line, width, key as u8, source);
+            return;
+        }
         key_pixels(line, 1, width, key, source);
-    } else {
-        key_pixels(line, 2, width, key, source);
+        return;
     }
+    key_pixels(line, 2, width, key, source);
 }
 
 // Pixels of a source line and those of the line, mixed side by side. The mix is looked at once, not pixel by pixel.

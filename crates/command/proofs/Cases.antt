@@ -339,10 +339,10 @@ pub under-rectangle : map number (set (set pattern 37 0) 38 0 ∷ set (set (set 
 unfolding allZero firstOf viewWidth viewHeight mainImage windowImage surfaceOf addressOf destinationOf sourceOf commandOf mustBeZero patternFits formed insideImage placed anyOf shareByte clashes lineWords wordsTaken commandRows refusal
 under-rectangle = refl
 
--- on lines of 640 bytes, of which 320 are shown: a pattern fill of two lines from x on, so many pixels wide, and patterns in the first line, at
+-- on lines of 640 bytes, of which 320 are shown: a pattern fill of two lines from x on, so many pixels wide, from the pattern's last pixel on, and patterns in the first line, at
 -- its edges, between the lines, in the second and past it
 abbrev hatched : ℕ → ℕ → ℕ → ℕ
-hatched x width at = refusal memorySize wide 0 (set (set (set (set (bytes 3 0 0 0 2) 4 x) 8 (width % 256)) 9 (width / 256)) 2 12 ++ fields 0 0 0 at)
+hatched x width at = refusal memorySize wide 0 (set (set (set (set (bytes 3 0 0 0 2) 4 x) 8 (width % 256)) 9 (width / 256)) 2 12 ++ fields 0 7 7 at)
 
 pub between-lines : map (hatched 0 320) (0 ∷ 256 ∷ 320 ∷ 576 ∷ 640 ∷ 896 ∷ 960 ∷ []) ++ map (hatched 64 192) (0 ∷ 64 ∷ 192 ∷ 256 ∷ 640 ∷ 704 ∷ 896 ∷ []) ≡ 29 ∷ 29 ∷ 0 ∷ 0 ∷ 29 ∷ 29 ∷ 0 ∷ 0 ∷ 29 ∷ 29 ∷ 0 ∷ 0 ∷ 29 ∷ 0 ∷ []
 unfolding allZero firstOf viewWidth viewHeight mainImage windowImage surfaceOf addressOf destinationOf sourceOf commandOf mustBeZero patternFits formed insideImage placed anyOf shareByte clashes lineWords wordsTaken commandRows refusal
