@@ -396,6 +396,16 @@ fn odd_length(rng: &mut Rng, size: usize, length: usize) -> usize {
     }
 }
 
+/// A long command: a short one, then key colour, pattern x and y, and pattern address.
+pub fn long_command(short: Vec<u8>, key: u16, (x, y): (u8, u8), pattern: u32) -> Vec<u8> {
+    let mut part = short;
+    part.extend(key.to_le_bytes());
+    part.extend([x, y]);
+    part.extend(pattern.to_le_bytes());
+    part.resize(48, 0);
+    part
+}
+
 /// A drawing in any form.
 pub fn accepted(rng: &mut Rng) -> Drawing {
     let form = form_of(rng);
@@ -452,7 +462,7 @@ fn damage_command(rng: &mut Rng, part: &mut [u8]) {
 fn damage_new(rng: &mut Rng, part: &mut [u8]) {
     let (byte, number) =
         (rng.pick(&[1, 7, 8, 8, 8, 12, 16, 16, 128, 255]), rng.pick(&[1, 255, 256, 0x5A5A]));
-    match rng.below(12) {
+    match rng.below(14) {
         0 => part[2] = byte,
         1 => set(part, rng.pick(&[12, 14]), 2, number),
         2 => set(part, 16, 2, number),
@@ -467,6 +477,7 @@ fn damage_new(rng: &mut Rng, part: &mut [u8]) {
             set(part, 36, 4, rng.pick(&past));
         }
         8 => part[rng.between(40, 47) as usize] = byte,
+        11 | 12 => part[rng.pick(&[34, 35])] = 8,
         _ => nudge(rng, part, &FURTHER_FIELDS),
     }
 }

@@ -5,6 +5,7 @@ use host::answers::{
     Compiled, Drawn, Form, Glyph, Hour, List, Played, Player, Point, Settings, Strip,
 };
 use host::chart::Samples;
+use host::inputs::long_command;
 use host::reference::MEMORY;
 use host::serial::BLOCK;
 use host::{forms, literal, older, records as turning, reference, serial, sheet, unit, wear};
@@ -2000,27 +2001,17 @@ fn there_and_back() {
 
 // ---- Request h) of 02 ----
 
-/// A long command: a short one, then key colour, pattern x and y, and pattern address.
-fn further(short: Vec<u8>, key: u16, (x, y): (u8, u8), pattern: u32) -> Vec<u8> {
-    let mut part = short;
-    part.extend(key.to_le_bytes());
-    part.extend([x, y]);
-    part.extend(pattern.to_le_bytes());
-    part.resize(48, 0);
-    part
-}
-
 /// A pattern fill with raster code, one with key colour, and a transparent move, on main.
 fn hatch(code: u8, [x, y, w, h]: [u16; 4], first: (u8, u8), pattern: u32) -> Vec<u8> {
-    further(command(3, 0, code, [x, y, w, h, 0, 0, 0]), 0, first, pattern)
+    long_command(command(3, 0, code, [x, y, w, h, 0, 0, 0]), 0, first, pattern)
 }
 
 fn keyed(key: u16, [x, y, w, h]: [u16; 4], first: (u8, u8), pattern: u32) -> Vec<u8> {
-    further(command(4, 0, 0, [x, y, w, h, 0, 0, 0]), key, first, pattern)
+    long_command(command(4, 0, 0, [x, y, w, h, 0, 0, 0]), key, first, pattern)
 }
 
 fn clear(key: u16, [x, y, w, h]: [u16; 4], source: (u16, u16)) -> Vec<u8> {
-    further(command(5, 0, 0, [x, y, w, h, source.0, source.1, 0]), key, (0, 0), 0)
+    long_command(command(5, 0, 0, [x, y, w, h, source.0, source.1, 0]), key, (0, 0), 0)
 }
 
 /// Number, place and part of a long list on a screen.
@@ -2324,6 +2315,10 @@ fn fields_of_new_operations() {
                 assert_eq!(clash(&deep(depth), &list), number, "{} {byte} {value}", list[0]);
             }
         }
+    }
+    // The first key that depth 8 has not.
+    for list in [keyed(256, rectangle, (7, 7), 0), clear(256, rectangle, (9, 9))] {
+        assert_eq!([8, 16].map(|depth| clash(&deep(depth), &list)), [12, 0]);
     }
     // The last pattern, and the first that is not inside.
     for (depth, last) in [(8, 0x3_FFC0), (16, 0x3_FF80)] {

@@ -107,10 +107,10 @@ fn key_pixels(line: &mut [u8], bytes: usize, width: usize, key: u16, source: &[u
 }
 
 // The source byte, or the destination byte where the source byte is the key colour.
-fn keyed_byte(key: u8, s: u8, d: u8) -> u8
-    ensures { λ r. ⌜ r ≡ cond (eqb s key) d s ⌝ }
+fn keyed_byte(key: u8, new: u8, old: u8) -> u8
+    ensures { λ r. ⌜ r ≡ cond (eqb new key) old new ⌝ }
 {
-    if s == key { d } else { s }
+    if new == key { old } else { new }
 }
 
 // The same at one byte to a pixel, and a key colour of one byte.

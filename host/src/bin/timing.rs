@@ -10,7 +10,7 @@ use std::hint::black_box;
 use std::time::Instant;
 
 use host::answers::{Form, List, Played, Player, Point, Settings};
-use host::inputs::{Rng, POOR};
+use host::inputs::{long_command, Rng, POOR};
 use host::reference::{LONG, MEMORY, SHORT};
 use host::serial::{self, BLOCK};
 use host::wear::{self, HOURS};
@@ -89,16 +89,6 @@ fn command(operation: u8, code: u8, numbers: [u16; 7]) -> Vec<u8> {
     let mut part = vec![operation, 0, code, 0];
     part.extend(numbers.iter().flat_map(|number| number.to_le_bytes()));
     part.resize(32, 0);
-    part
-}
-
-/// A long command on main: a short one, then key colour, pattern x and y, and pattern address.
-fn long_command(short: Vec<u8>, key: u16, [x, y]: [u8; 2], pattern: u32) -> Vec<u8> {
-    let mut part = short;
-    part.extend(key.to_le_bytes());
-    part.extend([x, y]);
-    part.extend(pattern.to_le_bytes());
-    part.resize(48, 0);
     part
 }
 
@@ -454,13 +444,13 @@ fn main() {
     for (code, name) in [(0xC, ""), (6, " under exclusive or")] {
         for (depth, screen, x, width) in [(8, &bytes, 8, 496), (16, &words, 4, 248)] {
             let short = command(3, code, [x, 8, width, 496, 0, 0, 0]);
-            let stream = compiled_in(LONG, screen, &long_command(short, 0, [3, 4], 1024), &[]);
+            let stream = compiled_in(LONG, screen, &long_command(short, 0, (3, 4), 1024), &[]);
             timing.play(&format!("pattern fill{name}, depth {depth}"), &stream, RECTANGLE, None);
         }
     }
     for (depth, screen, x, width) in [(8, &bytes, 8, 496), (16, &words, 4, 248)] {
         let short = command(4, 0, [x, 8, width, 496, 0, 0, 0]);
-        let list = long_command(short, key(depth), [3, 4], 1024);
+        let list = long_command(short, key(depth), (3, 4), 1024);
         let (memory, stream) = (timing.poor_memory(), compiled_in(LONG, screen, &list, &[]));
         let what = format!("pattern fill with key colour, depth {depth}");
         timing.play_on(memory, &what, &stream, RECTANGLE, None);
@@ -468,7 +458,7 @@ fn main() {
     for (depth, screen, pixel) in [(8, &bytes, 1), (16, &words, 2)] {
         let (way, [x, y, w, h, _, sy], size, _) = moves[0];
         let short = command(5, 0, [x / pixel, y, w / pixel, h, x / pixel + 1, sy, 0]);
-        let list = long_command(short, key(depth), [0, 0], 0);
+        let list = long_command(short, key(depth), (0, 0), 0);
         let (memory, stream) = (timing.poor_memory(), compiled_in(LONG, screen, &list, &[]));
         timing.play_on(
             memory,
