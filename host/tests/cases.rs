@@ -2440,7 +2440,7 @@ fn what_5_and_7_ignore() {
     let mut memory = vec![9; MEMORY];
     memory[64..72].copy_from_slice(&[1, 2, 3, 4, 1, 2, 3, 4]);
     for operation in [5, 7] {
-        for (code, key) in [(0, 2), (6, 0xFF02), (0xF, 0x102)] {
+        for (code, key) in [(0, 2), (6, 0xFF02), (0xC, 2), (0xF, 0x102)] {
             let values = [operation + code * 0x1_0000, 64, 0, 4, 7, 0, key, 0xFFFF, 1];
             let (number, after) = played_on(&blit(values), &memory);
             assert_eq!((number, &after[..9]), (0, &[1, 9, 3, 4, 1, 9, 3, 4, 9][..]));
