@@ -1,2 +1,4 @@
 pub mod Read
+pub mod Line
 pub mod Looking
+pub mod Along

@@ -16,6 +16,7 @@ use Rattle.screen.specs.declared.ScreenValues.{ScreenValues}
 use Rattle.view.specs.Walk.{placeOf}
 use Rattle.view.specs.Shows.{Shows, shownBit}
 use Rattle.reader.specs.Read.{displayOf, lookedAt, readRows, reading}
+use Rattle.reader.specs.Line.{lineNumber, lineAfter, lineRows, LineReads}
 use Rattle.reader.specs.declared.Display.{Display}
 use Rattle.command.specs.Task.{Task, screenIn}
 use Rattle.compiler.specs.Compile.{Compiling, compiling, bufferAfter}
@@ -23,7 +24,7 @@ use Rattle.chip.specs.Play.{playing, played}
 use Rattle.older.specs.Bytes.{olderMemory, olderRegisters, olderValues}
 use Rattle.older.specs.Compile.{registersIn, bytesIn, olderRows, olderCompiling, olderBuffer}
 use Rattle.unit.specs.Sheet.{sheetAfter}
-use Rattle.unit.specs.Point.{sheetPoint, LooksTruly}
+use Rattle.unit.specs.Point.{sheetPoint, sheetLine, LooksTruly}
 use Rattle.unit.specs.Tables.{compileRows, playRows}
 
 -- Demand 1 of an answer's number and place, and a table: "accepted exactly when document 01's limits hold, else refused with the
@@ -44,6 +45,13 @@ pub record Demand1 : Type 0 where
   pub memory-kept : (stream memory : List ℕ) → 0 < playing memorySize stream memory .number → played memorySize stream memory ≡ memory
   pub reads : (d : Display) (v : ScreenValues) (p q : ℕ) (memory : List ℕ)
       → let r = reading memorySize d v p q memory in Decided (r .number) (r .place) (readRows memorySize d v p q (length memory))
+
+-- Beside demand 1 (02, i): a whole panel line, in a memory of m bytes, so of either chip, is decided by its table: the rows of its points, the
+-- leftmost's first, and 17. A refusal leaves the line buffer as it was, and accepted it has the point reader's colour at each column
+pub record LineDemand1 (m : ℕ) : Type 0 where
+  pub decided : (d : Display) (v : ScreenValues) (q : ℕ) (memory : List ℕ) (room : ℕ)
+      → Decided (lineNumber m d v q memory room) 0 (lineRows m d v q (length memory) room)
+  pub reads : (d : Display) (v : ScreenValues) (q : ℕ) (memory old : List ℕ) → LineReads m d v q memory old
 
 -- Demand 2: "Read back through the chip's walk, each panel point shows the one image pixel that the rotation names, inside
 -- memory, the small window over the main", from the register values of an accepted screen record
@@ -99,6 +107,20 @@ Demand3 =
     → length memory ≡ memorySize → compiling memorySize t (length buffer) .number ≡ 0
     → DrawnTruly t buffer memory
 
+-- a line buffer with a colour for each column gets, of a display, six values and a memory of m bytes, what the sheet shows on panel line q
+pub record LineShown (m : ℕ) (d : Display) (v : ScreenValues) (memory : List ℕ) (s : Screen) (sheet : List ℕ) (q : ℕ) (line : List ℕ) : Type 0 where
+  pub accepted : lineNumber m d v q memory (length line) ≡ 0
+  pub colours : lineAfter m d v q memory line ≡ sheetLine s sheet q
+
+-- Beside demand 3 (02, i): so at every panel line, given playing's six values and the memory it left
+abbrev pub Demand3Line : Type 0
+Demand3Line =
+    (t : Task) (buffer memory line : List ℕ) (q : ℕ) → InBytes t → AllBelow 256 memory
+    → length memory ≡ memorySize → compiling memorySize t (length buffer) .number ≡ 0
+    → q < screenIn t .height → length line ≡ screenIn t .width
+    → LineShown memorySize (displayGiven t buffer) (playing memorySize (streamGiven t buffer) memory .values)
+    (played memorySize (streamGiven t buffer) memory) (screenIn t) (sheetAfter memorySize t memory) q line
+
 -- ---- the S1D13706
 -- Demand 1 for it
 pub record OlderDemand1 : Type 0 where
@@ -133,3 +155,11 @@ pub record SetTruly (t : Task) (buffer : List ℕ) : Type 0 where
 -- Demand 2 for it: of every screen record that compiles
 abbrev pub OlderDemand2 : Type 0
 OlderDemand2 = (t : Task) (buffer : List ℕ) → olderCompiling t (length buffer) .number ≡ 0 → SetTruly t buffer
+
+-- Beside it (02, i): every panel line of any memory of 81,920 bytes
+abbrev pub OlderDemand2Line : Type 0
+OlderDemand2Line =
+    (t : Task) (buffer memory line : List ℕ) (q : ℕ) → AllBelow 256 memory
+    → length memory ≡ olderMemory → olderCompiling t (length buffer) .number ≡ 0
+    → q < screenIn t .height → length line ≡ screenIn t .width
+    → LineShown olderMemory (olderDisplay t buffer) (valuesGiven t buffer) memory (screenIn t) memory q line

@@ -1,7 +1,9 @@
--- What the point reader is to give at a panel point, in terms of the sheet alone (01, "The plain sheet"; 02, e), and what is claimed of it.
+-- What the point reader is to give at a panel point, in terms of the sheet alone (01, "The plain sheet"; 02, e), what is claimed of it, and what a
+-- whole panel line is to hold (02, i).
 use Prim.Native.Nat.{ℕ, _-_, _/_, _%_}
 use mathlib.Core.Path.{_≡_}
 use mathlib.Core.List.{List}
+use Rattle.record.specs.Lists.{tabulate}
 use Rattle.screen.specs.declared.Screen.{Screen}
 use Rattle.view.specs.Shows.{shownBit}
 use Rattle.reader.specs.Read.{Reading, Stands}
@@ -20,3 +22,7 @@ pub record LooksTruly (m : ℕ) (s : Screen) (memory : List ℕ) (p q : ℕ) (r 
   pub bit : r .bit ≡ 7 - shownBit s p q % 8
   pub stands : Stands m (s .depth) memory r
   pub sheet : r ≡ sheetPoint s memory p q
+
+-- the colours that the sheet shows on panel line q, one for each column
+unfoldable pub sheetLine : Screen → List ℕ → ℕ → List ℕ
+sheetLine s sheet q = tabulate (s .width) (λ p. sheetShows s sheet p q)

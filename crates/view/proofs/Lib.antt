@@ -1,4 +1,5 @@
 pub mod Reaches
+pub mod Stepping
 pub mod Window
 pub mod Demand
 pub mod Cases

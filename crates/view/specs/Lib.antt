@@ -1,3 +1,4 @@
 pub mod View
 pub mod Walk
+pub mod Steps
 pub mod Shows

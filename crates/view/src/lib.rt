@@ -6,3 +6,18 @@ pub struct Place {
     pub down: u64,
     pub pixel: u64,
 }
+
+// Columns of a panel line: from `from` on, up to `to`, which is not one of them.
+pub struct Columns {
+    pub from: u32,
+    pub to: u32,
+}
+
+// A walk along a panel line by steps: its first pixel has ahead − behind bits of memory before it, and each next one so many more, or, back, so
+// many fewer.
+pub struct Steps {
+    pub ahead: u64,
+    pub behind: u64,
+    pub step: u64,
+    pub back: bool,
+}

@@ -2,12 +2,16 @@
 ghost use mathlib.Core.Path.{_≡_};
 ghost use mathlib.Core.Bool.{true, _&&_, cond};
 ghost use lib.Dec.{eqb};
-ghost use Prim.Native.Nat.{_+_, _*_, _≤_, _<_};
+ghost use Prim.Native.Nat.{_+_, _*_, _≤_, _<_, min};
+ghost use Rattle.pixel.specs.Depth.{isDepth};
 ghost use Rattle.screen.specs.Fields.{valuesFit};
 ghost use Rattle.view.specs.Walk.{walk, between, inWindowBy, cornerP, cornerQ, placeOf};
+ghost use Rattle.view.specs.Steps.{meetsWindow, windowColumns, stepsFrom};
 use screen::Origin;
 use screen::ScreenValues;
+use view::Columns;
 use view::Place;
+use view::Steps;
 
 // One of two numbers.
 fn chosen(first: bool, a: u32, b: u32) -> u32
@@ -111,4 +115,81 @@ pub fn place_of(depth: u32, rotation: u32, flag: u32, values: ScreenValues, p: u
         return walk_to(rotation, k, window, x as u32, y as u32);
     }
     walk_to(rotation, k, main, p, q)
+}
+
+// One of two wider numbers.
+fn either(first: bool, a: u64, b: u64) -> u64
+    ensures { λ r. ⌜ r ≡ cond first a b ⌝ }
+{
+    if first { a } else { b }
+}
+
+// Whether panel line q meets the window's lines.
+fn meets_window(rotation: u32, flag: u32, k: u32, y: u64, q: u32) -> bool
+    ensures { λ r. ⌜ r ≡ meetsWindow rotation flag k y q ⌝ }
+{
+    let turned = (rotation == 1) | (rotation == 3);
+    let t = either(turned, record_code::quotient(q as u64, k as u64), q as u64);
+    (flag == 1) & is_between(y, t)
+}
+
+// The panel column of an edge that counts so many columns as one, or the panel's width where that is less.
+fn column_of(width: u32, edge: u64, per: u32) -> u32
+    requires { ⌜ edge ≤ 1024 ⌝ }
+    ensures { λ r. ⌜ r ≡ min width (edge * per) ⌝ }
+{
+    let at = edge * per as u64;
+    record_code::least(width as usize, at as usize) as u32
+}
+
+// The columns of panel line q, of so many, that are the window's.
+pub fn window_columns(
+    depth: u32,
+    rotation: u32,
+    flag: u32,
+    values: ScreenValues,
+    width: u32,
+    q: u32,
+) -> Columns
+    ensures { λ r. ⌜ r ≡ windowColumns depth rotation flag values width q ⌝ }
+{
+    let k = pixel_code::per_dword(depth);
+    if !meets_window(rotation, flag, k, values.y, q) {
+        return Columns { from: 0, to: 0 };
+    }
+    let per = chosen((rotation == 1) | (rotation == 3), 1, k);
+    let from = column_of(width, values.x % 1024, per);
+    let to = column_of(width, values.x / 65536 % 1024 + 1, per);
+    Columns {
+        from,
+        to: chosen(from <= to, to, from),
+    }
+}
+
+// The walk from panel point (p, q) on by steps, from values that are in their fields.
+pub fn steps_from(
+    depth: u32,
+    rotation: u32,
+    flag: u32,
+    values: ScreenValues,
+    p: u32,
+    q: u32,
+) -> Steps
+    requires { ⌜ (isDepth depth ≡ true) × (rotation < 4) × (valuesFit values ≡ true) ⌝ }
+    ensures { λ r. ⌜ r ≡ stepsFrom depth rotation flag values p q ⌝ }
+{
+    let w = place_of(depth, rotation, flag, values, p, q);
+    let k = pixel_code::per_dword(depth);
+    let main = values.main;
+    let window = values.window;
+    let windows = in_window(flag, rotation, k, values.x, values.y, p, q);
+    let offset = either(windows, window.offset, main.offset);
+    let bits = depth as u64;
+    let turned = (rotation == 1) | (rotation == 3);
+    Steps {
+        ahead: 32 * w.up + bits * w.pixel,
+        behind: 32 * w.down,
+        step: either(turned, 32 * offset, bits),
+        back: 1 < rotation,
+    }
 }

@@ -1,0 +1,44 @@
+-- Reading along a panel line, for inner contracts alone: points of neighbouring columns, by what the chip looks at and by steps. No promise of an entry
+-- point cites it.
+use Prim.Native.Nat.{ℕ, zero, suc, _+_, _-_, _/_, _%_, _<_}
+use mathlib.Core.Path.{_≡_}
+use mathlib.Core.List.{List}
+use mathlib.Core.Bool.{Bool, true, _&&_}
+use lib.Dec.{leb, ltb}
+use Rattle.record.specs.Lists.{tabulate}
+use Rattle.pixel.specs.Depth.{isDepth}
+use Rattle.pixel.specs.Pixel.{storedPixel}
+use Rattle.screen.specs.Fields.{valuesFit}
+use Rattle.screen.specs.declared.ScreenValues.{ScreenValues}
+use Rattle.view.specs.Steps.{isWindows, aheadAfter, behindAfter, bitsAfter}
+use Rattle.view.specs.declared.Steps.{Steps}
+use Rattle.reader.specs.Read.{lookedAt, dwordInside, colourAt}
+use Rattle.reader.specs.declared.Display.{Display}
+
+-- the checks up to 21 have passed
+pub record Walkable (d : Display) (values : ScreenValues) : Type 0 where
+  pub depth : isDepth (d .depth) ≡ true
+  pub rotation : d .rotation < 4
+  pub fit : valuesFit values ≡ true
+
+-- n columns from column a on lie all in the window, or all outside it
+abbrev pub OneSide : Display → ScreenValues → ℕ → ℕ → ℕ → Type 0
+OneSide d values q a n =
+    (j : ℕ) → j < n → isWindows (d .depth) (d .rotation) (d .flag) values (a + j) q ≡ isWindows (d .depth) (d .rotation) (d .flag) values a q
+
+-- the dwords that the chip looks at for n columns from column a on are all in a memory of m bytes
+unfoldable pub allInside : ℕ → Display → ScreenValues → ℕ → ℕ → ℕ → Bool
+allInside m d values q a zero = true
+allInside m d values q a (suc n) = dwordInside m (lookedAt d values a q) && allInside m d values q (suc a) n
+
+-- their colours
+unfoldable pub coloursFrom : Display → ScreenValues → ℕ → List ℕ → ℕ → ℕ → List ℕ
+coloursFrom d values q memory a n = tabulate n (λ j. colourAt (d .depth) memory (lookedAt d values (a + j) q))
+
+-- the dword after j steps is one of a memory of m bytes
+abbrev pub stepInside : ℕ → Steps → ℕ → Bool
+stepInside m s j = leb (behindAfter s j) (aheadAfter s j) && ltb (bitsAfter s j / 32) (m / 4)
+
+-- the colour of the pixel there
+abbrev pub stepColour : ℕ → List ℕ → Steps → ℕ → ℕ
+stepColour depth memory s j = storedPixel depth memory (bitsAfter s j / 8) (7 - bitsAfter s j % 8)
