@@ -70,7 +70,7 @@ from-back side x w t c e g h lo hi = counted x w (side - 1 - t) t c (here ∙ sy
 
 -- ---- by the registers
 -- points counted in the registers' units
-in-units : (r k x y p q : ℕ) → inWindowBy r k x y p q ≡ (between x (p / unitX r k) && between y (q / unitY r k))
+pub in-units : (r k x y p q : ℕ) → inWindowBy r k x y p q ≡ (between x (p / unitX r k) && between y (q / unitY r k))
 unfolding inWindowBy
 in-units r k x y p q = by-side (quarter r)
   where
@@ -78,7 +78,7 @@ in-units r k x y p q = by-side (quarter r)
     by-side true = rw (div-one p)
     by-side false = rw (div-one q)
 
-corner-p : (r k x : ℕ) → cornerP r k x ≡ startEdge x * unitX r k
+pub corner-p : (r k x : ℕ) → cornerP r k x ≡ startEdge x * unitX r k
 unfolding cornerP
 corner-p r k x = by-side (quarter r)
   where
@@ -94,7 +94,7 @@ corner-q r k y = by-side (quarter r)
     by-side true = refl
     by-side false = sym (mul-one (startEdge y))
 
-unit-pos : (t : Bool) (a b : ℕ) → 0 < a → 0 < b → 0 < cond t a b
+pub unit-pos : (t : Bool) (a b : ℕ) → 0 < a → 0 < b → 0 < cond t a b
 unit-pos true a b g h = g
 unit-pos false a b g h = h
 
