@@ -24,6 +24,11 @@ getD-tabulate (suc n) f (suc i) h = getD-tabulate n (λ k. f (suc k)) i (le-of-s
 pub tabulate-ext : (n : ℕ) (f g : ℕ → ℕ) → ((a : ℕ) → f a ≡ g a) → tabulate n f ≡ tabulate n g
 tabulate-ext n f g e = λ t. tabulate n (λ a. e a t)
 
+-- two lists are the same by their elements
+pub tabulate-below : (n : ℕ) (f g : ℕ → ℕ) → ((a : ℕ) → a < n → f a ≡ g a) → tabulate n f ≡ tabulate n g
+tabulate-below zero f g e = refl
+tabulate-below (suc n) f g e = λ t. e 0 (omega arith) t ∷ tabulate-below n (λ k. f (suc k)) (λ k. g (suc k)) (λ a h. e (suc a) (omega arith)) t
+
 -- ---- numbers below a limit
 pub nothing-past : (xs : List ℕ) (k : ℕ) → length xs ≤ k → getD xs k 0 ≡ 0
 nothing-past [] k h = refl
