@@ -1,3 +1,4 @@
 pub mod Answer
 pub mod Accepted
+pub mod Line
 pub mod Cases
