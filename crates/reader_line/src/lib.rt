@@ -1,14 +1,14 @@
 // The line reader: what a whole panel line shows.
 ghost use mathlib.Core.Path.{_≡_};
 ghost use mathlib.Core.Bool.{true, cond};
-ghost use Prim.Native.Nat.{_+_, _-_, _*_, _/_, _%_, _≤_, _<_, min, max};
+ghost use Prim.Native.Nat.{_+_, _-_, _*_, _/_, _%_, _≤_, _<_};
 ghost use lib.ListN.{length};
 ghost use Rattle.record.specs.Lists.{tabulate};
 ghost use Rattle.pixel.specs.Depth.{isDepth};
 ghost use Rattle.pixel.specs.Pixel.{getPixel, storedPixel};
 ghost use Rattle.screen.specs.Screen.{memorySize};
 ghost use Rattle.reader.specs.Line.{lineNumber, lineAfter};
-ghost use Rattle.reader.specs.Along.{Walkable, OneSide, allInside, coloursFrom, Near, Readable, stepInside, stepColour};
+ghost use Rattle.reader.specs.Along.{Walkable, OneSide, allInside, coloursFrom, stepInside, stepColour, Near, Readable, Fillable};
 use reader::Display;
 use screen::ScreenValues;
 use view::Steps;
@@ -27,8 +27,8 @@ fn is_inside(size: u64, s: Steps, j: u32) -> bool
     (s.behind <= ahead) & (record_code::minus(ahead, s.behind) / 32 < size / 4)
 }
 
-// Whether the dwords of the columns from `from` up to `to`, on one side of the window's edges, are all in a memory of so many bytes: the first and
-// the last decide.
+// Whether the dwords of the columns from `from` up to `to`, on one side of the window's edges, are all in a memory of so many bytes: those of
+// the first and of the last decide.
 fn is_run_inside(size: u64, d: Display, values: ScreenValues, q: u32, from: u32, to: u32) -> bool
     requires { ⌜ Walkable d values × OneSide d values q from (to - from) ⌝ }
     ensures { λ r. ⌜ r ≡ allInside size d values q from (to - from) ⌝ }
@@ -59,10 +59,9 @@ fn next_bits(s: Steps, bits: u64) -> u64
     bits + s.step
 }
 
-// Fills a line with the colours that stand a step apart.
+// Fills a line with the colours of pixels that stand a step apart.
 fn fill_by(depth: u32, memory: &[u8], s: Steps, line: &mut [u16])
-    requires { ⌜ (isDepth depth ≡ true) × (Near s × (s .behind ≤ s .ahead)) ⌝ }
-    requires { ⌜ (length (now line) ≤ 4294967296) × ((j : ℕ) → j < length (now line) → Readable depth (length (now memory)) (bitsAfter s j)) ⌝ }
+    requires { ⌜ Fillable depth (length (now memory)) s (length (now line)) ⌝ }
     ensures { λ _. ⌜ now (line .exit) ≡ tabulate (length (now (line .entry))) (stepColour depth (now (memory .entry)) s) ⌝ }
 {
     let mut bits = record_code::minus(s.ahead, s.behind);
@@ -72,4 +71,90 @@ fn fill_by(depth: u32, memory: &[u8], s: Steps, line: &mut [u16])
         bits = next_bits(s, bits);
         j += 1;
     }
+}
+
+// Fills a line with pixels of so many bytes that stand side by side, from byte `at` on.
+fn fill_pixels(memory: &[u8], bytes: usize, at: usize, line: &mut [u16])
+    requires { ⌜ (0 < bytes) × (bytes ≤ 2) × (at + length (now line) * bytes ≤ length (now memory)) ⌝ }
+    ensures { λ _. ⌜ now (line .exit) ≡ tabulate (length (now (line .entry))) (λ j. getPixel bytes (now (memory .entry)) (at + j * bytes)) ⌝ }
+{
+    let mut j = 0;
+    while j < line.len() {
+        line[j] = pixel_code::get_pixel(memory, bytes, at + j * bytes);
+        j += 1;
+    }
+}
+
+// The same, with the bytes of a pixel as a constant of the loop.
+fn fill_worker(memory: &[u8], bytes: usize, at: usize, line: &mut [u16])
+    requires { ⌜ (0 < bytes) × (bytes ≤ 2) × (at + length (now line) * bytes ≤ length (now memory)) ⌝ }
+    ensures { λ _. ⌜ now (line .exit) ≡ tabulate (length (now (line .entry))) (λ j. getPixel bytes (now (memory .entry)) (at + j * bytes)) ⌝ }
+{
+    if bytes == 1 {
+        fill_pixels(memory, 1, at, line);
+    } else {
+        fill_pixels(memory, 2, at, line);
+    }
+}
+
+// Fills a line with the colours of its columns, from panel column `from` on, on one side of the window's edges.
+fn fill_run(d: Display, values: ScreenValues, q: u32, from: u32, memory: &[u8], line: &mut [u16])
+    requires { ⌜ Walkable d values × (OneSide d values q from (length (now line)) × ((length (now line) ≤ 4294967296) × (allInside (length (now memory)) d values q from (length (now line)) ≡ true))) ⌝ }
+    ensures { λ _. ⌜ now (line .exit) ≡ coloursFrom d values q (now (memory .entry)) from (length (now (line .entry))) ⌝ }
+{
+    if line.len() == 0 {
+        return;
+    }
+    let depth = d.depth;
+    let s = view_code::steps_from(depth, d.rotation, d.flag, values, from, q);
+    if (8 <= depth) & ((s.step == depth as u64) & !s.back) {
+        let bits = record_code::minus(s.ahead, s.behind);
+        fill_worker(memory, (depth / 8) as usize, (bits / 8) as usize, line);
+        return;
+    }
+    fill_by(depth, memory, s, line);
+}
+
+// What panel line q shows in a memory of so many bytes: 0, and the line is filled, a colour for each panel column; or the first refusal number, and
+// it is as it was. The checks are made once, the window's columns found once, and the walk goes by steps.
+pub fn read_line_in(
+    size: u64,
+    d: Display,
+    values: ScreenValues,
+    q: u32,
+    memory: &[u8],
+    line: &mut [u16],
+) -> u32
+    ensures { λ r. ⌜ r ≡ lineNumber size d values q (now (memory .entry)) (length (now (line .entry))) ⌝ }
+    ensures { λ _. ⌜ now (line .exit) ≡ lineAfter size d values q (now (memory .entry)) (now (line .entry)) ⌝ }
+{
+    let n = reader_code::first_fault(size, d, values, 0, q, memory.len() as u64);
+    if n != 0 {
+        return n;
+    }
+    let width = d.width;
+    let c = view_code::window_columns(d.depth, d.rotation, d.flag, values, width, q);
+    let left = is_run_inside(size, d, values, q, 0, c.from);
+    let middle = is_run_inside(size, d, values, q, c.from, c.to);
+    let right = is_run_inside(size, d, values, q, c.to, width);
+    if !(left & (middle & right)) {
+        return 25;
+    }
+    if line.len() != width as usize {
+        return 17;
+    }
+    let from = c.from as usize;
+    let to = c.to as usize;
+    fill_run(d, values, q, 0, memory, &mut line[..from]);
+    fill_run(d, values, q, c.from, memory, &mut line[from..to]);
+    fill_run(d, values, q, c.to, memory, &mut line[to..]);
+    0
+}
+
+// The same in the S1D13A05's memory.
+pub fn read_line(d: Display, values: ScreenValues, q: u32, memory: &[u8], line: &mut [u16]) -> u32
+    ensures { λ r. ⌜ r ≡ lineNumber memorySize d values q (now (memory .entry)) (length (now (line .entry))) ⌝ }
+    ensures { λ _. ⌜ now (line .exit) ≡ lineAfter memorySize d values q (now (memory .entry)) (now (line .entry)) ⌝ }
+{
+    read_line_in(262144, d, values, q, memory, line)
 }
