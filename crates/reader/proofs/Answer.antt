@@ -105,15 +105,18 @@ module _ (m : ℕ) (d : Display) (v : ScreenValues) (p q n : ℕ) where
   unfolding looking
   refuses k h e = rw (← e) (rw (ne-eqb k 0 (λ z. omega arith)) refl)
 
-  -- one of the first eight fails
-  pub given-refused : (k : ℕ) → 0 < k → k ≡ firstOf (take 8 (readRows m d v p q n)) → Nowhere k ≡ looking m d v p q n
-  given-refused k h e =
+  -- one of the first eight fails: its number is the table's
+  pub eight-refuse : (k : ℕ) → 0 < k → k ≡ firstOf (take 8 (readRows m d v p q n)) → k ≡ firstOf (readRows m d v p q n)
+  eight-refuse k h e =
       let rows = readRows m d v p q n in
-      refuses k h (e ∙ sym (first-part (take 8 rows) (drop 8 rows) (omega arith)) ∙ ap firstOf (take-append-drop 8 rows))
+      e ∙ sym (first-part (take 8 rows) (drop 8 rows) (omega arith)) ∙ ap firstOf (take-append-drop 8 rows)
+
+  pub given-refused : (k : ℕ) → 0 < k → k ≡ firstOf (take 8 (readRows m d v p q n)) → Nowhere k ≡ looking m d v p q n
+  given-refused k h e = refuses k h (eight-refuse k h e)
 
   -- all of them pass
   module _ (none-fails : firstOf (take 8 (readRows m d v p q n)) ≡ 0) where
-    pass : AllPass (take 8 (readRows m d v p q n))
+    pub pass : AllPass (take 8 (readRows m d v p q n))
     pass = none _ (numbered-take 8 _ (numbered m d v p q n)) none-fails
 
     pub given : Given m d v n
@@ -128,7 +131,7 @@ module _ (m : ℕ) (d : Display) (v : ScreenValues) (p q n : ℕ) where
         }
 
     -- the last decides
-    last : (t : Bool) → not (dwordInside m (lookedAt d v p q)) ≡ t → cond t 25 0 ≡ firstOf (readRows m d v p q n)
+    pub last : (t : Bool) → not (dwordInside m (lookedAt d v p q)) ≡ t → cond t 25 0 ≡ firstOf (readRows m d v p q n)
     unfolding readRows firstOf
     last t h = ap (λ (b : Bool). cond b 25 0) (sym h) ∙ sym (second-part (take 8 (readRows m d v p q n)) (drop 8 (readRows m d v p q n)) pass)
 

@@ -1,3 +1,5 @@
 pub mod Answer
 pub mod Accepted
+pub mod Line
+pub mod Along
 pub mod Cases

@@ -1,6 +1,6 @@
 -- Reading along a panel line, for inner contracts alone: points of neighbouring columns, by what the chip looks at and by steps. No promise of an entry
 -- point cites it.
-use Prim.Native.Nat.{ℕ, zero, suc, _+_, _-_, _/_, _%_, _<_}
+use Prim.Native.Nat.{ℕ, zero, suc, _+_, _-_, _/_, _%_, _≤_, _<_, min, max}
 use mathlib.Core.Path.{_≡_}
 use mathlib.Core.List.{List}
 use mathlib.Core.Bool.{Bool, true, _&&_}
@@ -42,3 +42,21 @@ stepInside m s j = leb (behindAfter s j) (aheadAfter s j) && ltb (bitsAfter s j 
 -- the colour of the pixel there
 abbrev pub stepColour : ℕ → List ℕ → Steps → ℕ → ℕ
 stepColour depth memory s j = storedPixel depth memory (bitsAfter s j / 8) (7 - bitsAfter s j % 8)
+
+-- no sum of steps along a line passes 64 bits
+pub record Near (s : Steps) : Type 0 where
+  pub ahead : s .ahead ≤ 281474976710656
+  pub behind : s .behind ≤ 281474976710656
+  pub step : s .step ≤ 32768
+
+-- the pixel with so many bits before it lies in a memory of m bytes, below depth 8 in one byte
+abbrev pub Readable : ℕ → ℕ → ℕ → Type 0
+Readable depth m bits = (bits / 8 + max 1 (depth / 8) ≤ m) × (min depth 8 ≤ 7 - bits % 8 + 1)
+
+-- n pixels, each a step from the one before it, can be read
+pub record Fillable (depth m : ℕ) (s : Steps) (n : ℕ) : Type 0 where
+  pub deep : isDepth depth ≡ true
+  pub near : Near s
+  pub start : s .behind ≤ s .ahead
+  pub count : n ≤ 4294967296
+  pub each : (j : ℕ) → j < n → Readable depth m (bitsAfter s j)

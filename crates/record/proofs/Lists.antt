@@ -3,7 +3,7 @@ use Prim.Native.Nat.{ℕ, zero, suc, _+_, _-_, _*_, _/_, _<_, _≤_}
 use mathlib.Core.Path.{_≡_, refl, sym, ap, subst, _∙_}
 use mathlib.Core.List.{List, [], _∷_, _++_}
 use mathlib.Core.Logic.{⊎-elim}
-use native.Mathlib.Nat.{le-of-suc-le-suc, not-suc-le-zero, suc-mul}
+use native.Mathlib.Nat.{le-of-suc-le-suc, not-suc-le-zero, suc-mul, zero-add, suc-add}
 use native.Mathlib.Numerals.{add-one}
 use native.Mathlib.Omega.{arith}
 use lib.ListN.{length, getD, take, drop, length-take}
@@ -23,6 +23,16 @@ getD-tabulate (suc n) f (suc i) h = getD-tabulate n (λ k. f (suc k)) i (le-of-s
 
 pub tabulate-ext : (n : ℕ) (f g : ℕ → ℕ) → ((a : ℕ) → f a ≡ g a) → tabulate n f ≡ tabulate n g
 tabulate-ext n f g e = λ t. tabulate n (λ a. e a t)
+
+-- the same elements below n are enough
+pub tabulate-below : (n : ℕ) (f g : ℕ → ℕ) → ((a : ℕ) → a < n → f a ≡ g a) → tabulate n f ≡ tabulate n g
+tabulate-below zero f g e = refl
+tabulate-below (suc n) f g e = λ t. e 0 (omega arith) t ∷ tabulate-below n (λ k. f (suc k)) (λ k. g (suc k)) (λ a h. e (suc a) (omega arith)) t
+
+-- one list behind the other
+pub tabulate-append : (n k : ℕ) (f : ℕ → ℕ) → tabulate n f ++ tabulate k (λ j. f (n + j)) ≡ tabulate (n + k) f
+tabulate-append zero k f = simp zero-add
+tabulate-append (suc n) k f = simp suc-add (ap (λ (l : List ℕ). f 0 ∷ l) (tabulate-append n k (λ j. f (suc j))))
 
 -- ---- numbers below a limit
 pub nothing-past : (xs : List ℕ) (k : ℕ) → length xs ≤ k → getD xs k 0 ≡ 0

@@ -22,7 +22,7 @@ use Rattle.view.specs.Shows.{Shows}
 use Rattle.view.proofs.Reaches.{panelWidth, panelHeight, pixelOf, image-shows}
 
 -- ---- tests that say the same
-same-test : (a b : Bool) → (a ≡ true → b ≡ true) → (b ≡ true → a ≡ true) → a ≡ b
+pub same-test : (a b : Bool) → (a ≡ true → b ≡ true) → (b ≡ true → a ≡ true) → a ≡ b
 same-test true b f g = sym (f refl)
 same-test false true f g = g refl
 same-test false false f g = refl
