@@ -8,6 +8,7 @@ use Rattle.screen.specs.declared.Screen.{Screen}
 use Rattle.screen.specs.declared.ScreenValues.{ScreenValues}
 use Rattle.view.specs.View.{viewPixel, inWindow, windowPixel, bitAddress}
 use Rattle.view.specs.Walk.{walk, inWindowBy, cornerP, cornerQ, placeOf}
+use Rattle.view.specs.Steps.{windowColumns, stepsFrom, bitsAfter}
 use Rattle.view.specs.Shows.{shownBit}
 
 abbrev rotations : List ℕ
@@ -56,6 +57,21 @@ looked flag p q = let w = placeOf 4 0 flag values p q in w .up ∷ w .down ∷ w
 pub looks : looked 1 10 4 ∷ looked 0 10 4 ∷ looked 1 10 5 ∷ [] ≡ (5002 ∷ 0 ∷ 2 ∷ []) ∷ (1161 ∷ 0 ∷ 2 ∷ []) ∷ (1201 ∷ 0 ∷ 2 ∷ []) ∷ []
 unfolding walk inWindowBy cornerP cornerQ placeOf
 looks = refl
+
+-- the window's columns of a panel line: 8 to 23 of line 4 upright, if there are as many, and 1 to 2 of line 24 turned; none of the other line
+abbrev across : ℕ → ℕ → ℕ → List ℕ
+across rotation width q = let c = windowColumns 4 rotation 1 values width q in c .from ∷ c .to ∷ []
+
+pub columns : across 0 320 4 ∷ across 0 20 4 ∷ across 0 320 24 ∷ across 1 320 24 ∷ across 1 320 4 ∷ []
+    ≡ (8 ∷ 24 ∷ []) ∷ (8 ∷ 20 ∷ []) ∷ (0 ∷ 0 ∷ []) ∷ (1 ∷ 3 ∷ []) ∷ (0 ∷ 0 ∷ []) ∷ []
+unfolding windowColumns
+columns = refl
+
+-- the bits before the pixel two steps on from (8, 4): before pixel 2 of dword 5,002 and pixel 5 of dword 4,998, in the window; and, turned, before pixel 3
+-- of dword 1,400 and pixel 4 of dword 600, in the main image
+pub steps : map (λ r. bitsAfter (stepsFrom 4 r 1 values 8 4) 2) rotations ≡ 160072 ∷ 44812 ∷ 159956 ∷ 19216 ∷ []
+unfolding walk inWindowBy cornerP cornerQ placeOf stepsFrom
+steps = refl
 
 -- the bits before the pixel that an upright screen of depth 4 shows at (10, 4), a window of 16 by 2 at (8, 3) with its image at byte 40,000 over it or not
 abbrev screen : ℕ → Screen
