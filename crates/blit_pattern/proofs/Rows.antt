@@ -1,30 +1,17 @@
 -- The rows of a pattern: as they are read, and the pixel that they make in each column of each line.
 use mathlib.Core.Path.{_≡_, refl, sym, ap, ap₂, _∙_}
-use mathlib.Core.Logic.{⊎-elim}
 use mathlib.Core.List.{List, []}
 use Prim.Native.Nat.{ℕ, zero, suc, _+_, _*_, _%_, _^_, _<_}
 use native.Mathlib.Nat.{add-mul, mod-add-mod, mod-eq-of-lt, mod-lt, mul-assoc}
 use native.Mathlib.Omega.{arith}
 use lib.Dec.{lit<}
-use lib.ListN.{length, getD, set}
-use lib.Seq.{ext-getD, getD-set-other, getD-set-same}
-use Rattle.record.proofs.Lists.{getD-tabulate}
+use lib.ListN.{length, getD}
+use lib.Seq.{ext-getD}
+use Rattle.record.proofs.Lists.{getD-tabulate, filled-all}
 use Rattle.pixel.specs.Pixel.{getPixel}
 use Rattle.pixel.proofs.Pixels.{get-lt}
 use Rattle.blit.specs.Job.{patternPixel}
-use Rattle.blit.proofs.Runs.{below-or-not}
 use Rattle.blit_pattern.specs.Pattern.{rowAt, rowsFrom, patternRows, rowsPixel}
-
--- an array that is filled place by place
-pub filled-more : {A : Type 0} (f : ℕ → A) (d v : A) (n : ℕ) (l : List A) → n < length l → ((k : ℕ) → k < n → getD l k d ≡ f k) → v ≡ f n
-    → (k : ℕ) → k < suc n → getD (set l n v) k d ≡ f k
-filled-more f d v n l room e ev k h =
-    ⊎-elim
-    (λ p. getD-set-other l n k v d (omega arith) ∙ e k p)
-    (λ p.
-    let t : k ≡ n = omega arith in
-    rw t (getD-set-same l n v d room ∙ ev))
-    (below-or-not k n)
 
 -- ---- as they are read
 
@@ -36,8 +23,7 @@ module _ (bytes : ℕ) (memory : List ℕ) (a : ℕ) where
   -- eight pixels are a row
   pub row-read : (l : List ℕ) → length l ≡ 8 → ((k : ℕ) → k < 8 → getD l k 0 ≡ getPixel bytes memory (a + k * bytes)) → l ≡ rowAt bytes memory a
   unfolding rowAt
-  row-read l len e =
-      ext-getD 0 l _ len (λ i h. e i (omega arith) ∙ sym (getD-tabulate 8 (λ u. getPixel bytes memory (a + u * bytes)) i (omega arith)))
+  row-read l len e = filled-all (λ u. getPixel bytes memory (a + u * bytes)) 8 l len e
 
   length-rows : (v n : ℕ) → length (rowsFrom bytes memory a v n) ≡ n
   unfolding rowsFrom

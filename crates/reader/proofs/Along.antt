@@ -6,7 +6,7 @@ use mathlib.Core.Bool.{Bool, true, false, _&&_, cond}
 use native.Mathlib.Omega.{arith}
 use native.Mathlib.Nat.{mul-comm, mul-le-mul-right}
 use lib.Dec.{leb, ltb}
-use borrow.Author.Tests.{leb-true, ltb-true, le-leb, lt-ltb}
+use borrow.Author.Tests.{leb-true, ltb-true, le-leb, lt-leb, lt-ltb, le-ltb}
 use Rattle.record.specs.Lists.{tabulate}
 use Rattle.record.proofs.Choice.{and-left, and-right}
 use Rattle.record.proofs.Lists.{tabulate-below}
@@ -15,11 +15,12 @@ use Rattle.pixel.specs.Pixel.{pixelByte, pixelBit}
 use Rattle.pixel.proofs.Depth.{depth-pos, in-dword, per-dword-pos}
 use Rattle.pixel.proofs.Stands.{stored-pixel, bit-is, bit-room, byte-room}
 use Rattle.screen.specs.declared.ScreenValues.{ScreenValues}
-use Rattle.view.specs.Steps.{stepsFrom, aheadAfter, behindAfter, bitsAfter}
+use Rattle.view.specs.Steps.{isWindows, windowColumns, stepsFrom, aheadAfter, behindAfter, bitsAfter}
+use Rattle.view.specs.declared.Columns.{Columns}
 use Rattle.view.specs.declared.Place.{Place}
 use Rattle.view.specs.declared.Steps.{Steps}
 use Rattle.view.proofs.Reaches.{low-place}
-use Rattle.view.proofs.Stepping.{steps-come, steps-bound}
+use Rattle.view.proofs.Stepping.{columns-in, windows-between, steps-come, steps-bound}
 use Rattle.view.proofs.Window.{same-orders, same-test}
 use Rattle.reader.specs.Read.{lookedAt, dwordInside}
 use Rattle.reader.specs.Along.{Walkable, OneSide, allInside, coloursFrom, stepInside, stepColour, Near, Readable, Fillable}
@@ -147,3 +148,26 @@ pub near : (d : Display) (v : ScreenValues) (p q : ℕ) (s : Steps) → Walkable
 near d v p q s walk hp hq is =
     let t = steps-bound (d .depth) (d .rotation) (d .flag) v p q (walk .depth) (walk .rotation) (walk .fit) hp hq in
     rw is (record { ahead = t .0; behind = t .1 .0; step = t .1 .1 })
+
+-- ---- the three parts of a line: left of the window's columns, among them, and right of them
+module _ (d : Display) (v : ScreenValues) (q : ℕ) (deep : isDepth (d .depth) ≡ true) (c : Columns) (is : c ≡ windowColumns (d .depth) (d .rotation) (d .flag) v (d .width) q) where
+  pub in-panel : (c .from ≤ c .to) × (c .to ≤ d .width)
+  in-panel = rw is (columns-in (d .depth) (d .rotation) (d .flag) v (d .width) q)
+
+  side : (p : ℕ) → p < d .width → isWindows (d .depth) (d .rotation) (d .flag) v p q ≡ (leb (c .from) p && ltb p (c .to))
+  side p h = rw is (windows-between (d .depth) (d .rotation) (d .flag) v (d .width) q p deep h)
+
+  -- columns of the panel that lie all on the same side of both edges
+  by-side : (a n : ℕ) (t : Bool) → a + n ≤ d .width → ((p : ℕ) → a ≤ p → p < a + n → (leb (c .from) p && ltb p (c .to)) ≡ t) → OneSide d v q a n
+  by-side a n t h f j g =
+      side (a + j) (omega arith) ∙ f (a + j) (omega arith) (omega arith) ∙ sym (side a (omega arith) ∙ f a (omega arith) (omega arith))
+
+  pub one-left : OneSide d v q 0 (c .from)
+  one-left = by-side 0 (c .from) false (omega (arith, in-panel)) (λ p h g. rw (lt-leb (c .from) p (omega arith)) refl)
+
+  pub one-middle : OneSide d v q (c .from) (c .to - c .from)
+  one-middle = by-side (c .from) (c .to - c .from) true (omega (arith, in-panel)) (λ p h g. rw (le-leb (c .from) p h, lt-ltb p (c .to) (omega arith)) refl)
+
+  pub one-right : OneSide d v q (c .to) (d .width - c .to)
+  one-right =
+      by-side (c .to) (d .width - c .to) false (omega (arith, in-panel)) (λ p h g. rw (le-leb (c .from) p (omega (arith, in-panel)), le-ltb p (c .to) h) refl)

@@ -146,6 +146,11 @@ module _ (m : ℕ) (d : Display) (v : ScreenValues) (q : ℕ) where
       let first = ap (λ (p : ℕ). insideAt p) (sym (add-zero a)) ∙ f 0 (omega arith) in
       rw first (all-inside (suc a) n (λ j h. let next : suc a + j ≡ a + suc j = omega arith in ap (λ (p : ℕ). insideAt p) next ∙ f (suc j) (omega arith)))
 
+  -- of none
+  pub inside-none : (a b : ℕ) → b ≤ a → true ≡ allInside m d v q a (b - a)
+  unfolding allInside
+  inside-none a b h = let none : b - a ≡ 0 = omega arith in rw none refl
+
   -- some, and those behind them
   inside-append : (a n k : ℕ) → allInside m d v q a (n + k) ≡ (allInside m d v q a n && allInside m d v q (a + n) k)
   unfolding allInside

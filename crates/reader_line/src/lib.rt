@@ -7,10 +7,12 @@ ghost use Rattle.record.specs.Lists.{tabulate};
 ghost use Rattle.pixel.specs.Depth.{isDepth};
 ghost use Rattle.pixel.specs.Pixel.{getPixel, storedPixel};
 ghost use Rattle.screen.specs.Screen.{memorySize};
+ghost use Rattle.view.specs.Steps.{windowColumns};
 ghost use Rattle.reader.specs.Line.{lineNumber, lineAfter};
 ghost use Rattle.reader.specs.Along.{Walkable, OneSide, allInside, coloursFrom, stepInside, stepColour, Near, Readable, Fillable};
 use reader::Display;
 use screen::ScreenValues;
+use view::Columns;
 use view::Steps;
 
 // Whether the dword after j steps is one of a memory of so many bytes.
@@ -115,6 +117,29 @@ fn fill_run(d: Display, values: ScreenValues, q: u32, from: u32, memory: &[u8], 
     fill_by(depth, memory, s, line);
 }
 
+// Whether the dwords of all columns of panel line q are in a memory of so many bytes: left of the window's columns, among them, and right of them.
+fn is_line_inside(size: u64, d: Display, values: ScreenValues, q: u32, c: Columns) -> bool
+    requires { ⌜ Walkable d values × (c ≡ windowColumns (d .depth) (d .rotation) (d .flag) values (d .width) q) ⌝ }
+    ensures { λ r. ⌜ r ≡ allInside size d values q 0 (d .width) ⌝ }
+{
+    let left = is_run_inside(size, d, values, q, 0, c.from);
+    let middle = is_run_inside(size, d, values, q, c.from, c.to);
+    let right = is_run_inside(size, d, values, q, c.to, d.width);
+    left & (middle & right)
+}
+
+// Fills a line with the colours of all columns: left of the window's columns, among them, and right of them.
+fn fill_line(d: Display, values: ScreenValues, q: u32, c: Columns, memory: &[u8], line: &mut [u16])
+    requires { ⌜ Walkable d values × ((c ≡ windowColumns (d .depth) (d .rotation) (d .flag) values (d .width) q) × ((length (now line) ≡ d .width) × (allInside (length (now memory)) d values q 0 (d .width) ≡ true))) ⌝ }
+    ensures { λ _. ⌜ now (line .exit) ≡ coloursFrom d values q (now (memory .entry)) 0 (d .width) ⌝ }
+{
+    let from = c.from as usize;
+    let to = c.to as usize;
+    fill_run(d, values, q, 0, memory, &mut line[..from]);
+    fill_run(d, values, q, c.from, memory, &mut line[from..to]);
+    fill_run(d, values, q, c.to, memory, &mut line[to..]);
+}
+
 // What panel line q shows in a memory of so many bytes: 0, and the line is filled, a colour for each panel column; or the first refusal number, and
 // it is as it was. The checks are made once, the window's columns found once, and the walk goes by steps.
 pub fn read_line_in(
@@ -132,22 +157,14 @@ pub fn read_line_in(
     if n != 0 {
         return n;
     }
-    let width = d.width;
-    let c = view_code::window_columns(d.depth, d.rotation, d.flag, values, width, q);
-    let left = is_run_inside(size, d, values, q, 0, c.from);
-    let middle = is_run_inside(size, d, values, q, c.from, c.to);
-    let right = is_run_inside(size, d, values, q, c.to, width);
-    if !(left & (middle & right)) {
+    let c = view_code::window_columns(d.depth, d.rotation, d.flag, values, d.width, q);
+    if !is_line_inside(size, d, values, q, c) {
         return 25;
     }
-    if line.len() != width as usize {
+    if line.len() != d.width as usize {
         return 17;
     }
-    let from = c.from as usize;
-    let to = c.to as usize;
-    fill_run(d, values, q, 0, memory, &mut line[..from]);
-    fill_run(d, values, q, c.from, memory, &mut line[from..to]);
-    fill_run(d, values, q, c.to, memory, &mut line[to..]);
+    fill_line(d, values, q, c, memory, line);
     0
 }
 

@@ -6,8 +6,8 @@ use mathlib.Core.Logic.{⊎-elim}
 use native.Mathlib.Nat.{le-of-suc-le-suc, not-suc-le-zero, suc-mul, zero-add, suc-add}
 use native.Mathlib.Numerals.{add-one}
 use native.Mathlib.Omega.{arith}
-use lib.ListN.{length, getD, take, drop, length-take}
-use lib.Seq.{getD-take, getD-drop, drop-drop, drop-at}
+use lib.ListN.{length, getD, set, take, drop, length-take}
+use lib.Seq.{ext-getD, getD-set-other, getD-set-same, getD-take, getD-drop, drop-drop, drop-at}
 use Rattle.record.specs.Lists.{AllBelow, tabulate, partsFrom, partsOf}
 use Rattle.record.proofs.Choice.{below-or-not}
 
@@ -33,6 +33,20 @@ tabulate-below (suc n) f g e = λ t. e 0 (omega arith) t ∷ tabulate-below n (�
 pub tabulate-append : (n k : ℕ) (f : ℕ → ℕ) → tabulate n f ++ tabulate k (λ j. f (n + j)) ≡ tabulate (n + k) f
 tabulate-append zero k f = simp zero-add
 tabulate-append (suc n) k f = simp suc-add (ap (λ (l : List ℕ). f 0 ∷ l) (tabulate-append n k (λ j. f (suc j))))
+
+-- ---- a list that is filled place by place
+pub filled-more : {A : Type 0} (f : ℕ → A) (d v : A) (n : ℕ) (l : List A) → n < length l → ((k : ℕ) → k < n → getD l k d ≡ f k) → v ≡ f n
+    → (k : ℕ) → k < suc n → getD (set l n v) k d ≡ f k
+filled-more f d v n l room e ev k h =
+    ⊎-elim
+    (λ p. getD-set-other l n k v d (omega arith) ∙ e k p)
+    (λ p.
+    let t : k ≡ n = omega arith in
+    rw t (getD-set-same l n v d room ∙ ev))
+    (below-or-not k n)
+
+pub filled-all : (f : ℕ → ℕ) (n : ℕ) (l : List ℕ) → length l ≡ n → ((k : ℕ) → k < n → getD l k 0 ≡ f k) → l ≡ tabulate n f
+filled-all f n l len e = ext-getD 0 l _ (len ∙ sym (length-tabulate n f)) (λ i h. e i (omega arith) ∙ sym (getD-tabulate n f i (omega arith)))
 
 -- ---- numbers below a limit
 pub nothing-past : (xs : List ℕ) (k : ℕ) → length xs ≤ k → getD xs k 0 ≡ 0

@@ -5,9 +5,10 @@ use native.Mathlib.Numerals.{add-one}
 use native.Mathlib.Omega.{arith}
 use lib.ListN.{length, getD, length-set}
 use borrow.Author.Needs.{needs}
+use Rattle.record.proofs.Lists.{filled-more}
 use Rattle.blit.proofs.Runs.{step-fits}
 use Rattle.blit_pattern.specs.Pattern.{rowAt}
-use Rattle.blit_pattern.proofs.Rows.{filled-more, rows-read}
+use Rattle.blit_pattern.proofs.Rows.{rows-read}
 use Rattle.blit_pattern.proofs.read_pattern.Statement.{statement}
 use Rattle.blit_pattern.proofs.read_pattern.Tie as tie
 

@@ -4,9 +4,10 @@ use native.Mathlib.Numerals.{add-one}
 use native.Mathlib.Omega.{arith}
 use lib.ListN.{length, getD, length-replicate, length-set}
 use borrow.Author.Needs.{needs}
+use Rattle.record.proofs.Lists.{filled-more}
 use Rattle.pixel.specs.Pixel.{getPixel}
 use Rattle.blit.proofs.Runs.{step-fits}
-use Rattle.blit_pattern.proofs.Rows.{filled-more, row-read}
+use Rattle.blit_pattern.proofs.Rows.{row-read}
 use Rattle.blit_pattern.proofs.read_row.Statement.{statement}
 use Rattle.blit_pattern.proofs.read_row.Tie as tie
 

@@ -1,3 +1,9 @@
+use Rattle.reader.proofs.Along.{near, ends-inside}
+use Rattle.reader.proofs.Line.{inside-none}
+use native.Mathlib.Omega.{arith}
+use mathlib.Core.Path.{_∙_}
+use Rattle.reader.specs.Along.{Near}
+use Prim.Native.Nat.{_-_}
 use borrow.Author.Needs.{needs}
 use Rattle.reader_line.proofs.is_run_inside.Statement.{statement}
 use Rattle.reader_line.proofs.is_run_inside.Tie as tie
@@ -6,9 +12,14 @@ use Rattle.reader_line.proofs.is_run_inside.Lts as lts
 use Rattle.reader_line.proofs.is_inside.Reads as is-inside-reads
 use Rattle.view_code.proofs.steps_from.Reads as steps-from-reads
 
--- src/lib.rt:37:9
+-- the steps' sums fit
+close-by : (c : tie.After-steps-from) → Near (c .steps-from .result)
+close-by c =
+    let f = c .before .before .args in
+    near (f .d) (f .values) (f .from) (f .q) _ (c .before .before .pre .0) (c .before .before .fits .from .fits) (c .before .before .fits .q .fits) (c .steps-from .ensures)
+
 returns : tie.Need-returns
-returns c = ?
+returns c = inside-none _ _ _ _ _ _ (c .if1 .taken)
 
 -- src/lib.rt:39:9
 steps-from-requires : tie.Need-steps-from-requires
@@ -16,7 +27,7 @@ steps-from-requires c κs = search needs
 
 -- src/lib.rt:40:5
 is-inside-requires : tie.Need-is-inside-requires
-is-inside-requires c κs = ?
+is-inside-requires c κs = close-by c
 
 -- src/lib.rt:40:48
 sub-is-inside : tie.Need-sub-is-inside
@@ -28,11 +39,14 @@ sub-is-inside-2 c = search needs
 
 -- src/lib.rt:40:29
 is-inside-requires-2 : tie.Need-is-inside-requires-2
-is-inside-requires-2 c κs = ?
+is-inside-requires-2 c κs = close-by (c .before)
 
 -- src/lib.rt:32:1
 returns-2 : tie.Need-returns-2
-returns-2 c = ?
+returns-2 c =
+    let f = c .before .before .before .before .args in
+    rw (c .before .is-inside .ensures, c .is-inside2 .ensures)
+    (ends-inside (f .d) (f .values) (f .q) (f .from) (f .to - f .from) (c .before .before .before .before .pre .0) (c .before .before .before .before .pre .1) _ (c .before .before .steps-from .ensures) (f .size) (omega (arith, c .before .before .before .if1 .left)))
 
 pub is-run-inside-spec : {M : Type 1} → statement M
 is-run-inside-spec =

@@ -11,7 +11,7 @@ minus-requires c κs = search needs
 
 -- src/lib.rt:57:9
 returns : tie.Need-returns
-returns c = ?
+returns c = simp (c .before .if1 .taken, c .minus .ensures)
 
 -- src/lib.rt:59:5
 add-result : tie.Need-add-result
@@ -19,7 +19,7 @@ add-result c = search needs
 
 -- src/lib.rt:52:1
 returns-2 : tie.Need-returns-2
-returns-2 c = ?
+returns-2 c = simp (c .before .if1 .left)
 
 pub next-bits-spec : {M : Type 1} → statement M
 next-bits-spec = tie.close (tie.spec minus-requires returns add-result returns-2)
