@@ -1,9 +1,10 @@
 -- Readings, computed: two checks that fail at once in the reader's order, both sides of each limit, colours, and where they stand; and panel lines.
-use Prim.Native.Nat.{ℕ, _+_}
+use Prim.Native.Nat.{ℕ, _+_, _-_}
 use mathlib.Core.Path.{_≡_, refl}
 use mathlib.Core.List.{List, [], _∷_, map}
+use mathlib.Core.Bool.{true, false}
 use lib.ListN.{length}
-use Rattle.record.specs.Checks.{firstOf}
+use Rattle.record.specs.Checks.{row, firstOf}
 use Rattle.record.specs.Lists.{tabulate}
 use Rattle.pixel.specs.Depth.{isDepth}
 use Rattle.pixel.specs.Pixel.{getPixel, dwordPixel, pixelBit}
@@ -12,7 +13,8 @@ use Rattle.screen.specs.Fields.{valuesFit}
 use Rattle.screen.specs.declared.ScreenValues.{ScreenValues}
 use Rattle.view.specs.Walk.{walk, inWindowBy, cornerP, cornerQ, placeOf}
 use Rattle.reader.specs.Read.{readRows, readAt, refusedPoint, reading, readingOf, answerOf}
-use Rattle.reader.specs.Line.{leftmost, lineNumber, lineAfter}
+use Rattle.reader.specs.Line.{leftmost, lineNumber, lineAfter, pointRows}
+use Rattle.reader.specs.Along.{allInside, coloursFrom}
 use Rattle.reader.specs.declared.Display.{Display}
 use Rattle.reader.specs.declared.PointAnswer.the-variants.{Shown, Refused}
 
@@ -208,3 +210,17 @@ pub first-of-two-in-a-line : lineNumber 16 (display 8 0 2 8 2) (values 0) 0 [] 8
     ≡ 18 ∷ 1 ∷ 2 ∷ 3 ∷ 4 ∷ 5 ∷ 21 ∷ 24 ∷ 24 ∷ 25 ∷ 18 ∷ []
 unfolding firstOf isDepth getPixel dwordPixel panelOk viewWidth wholeDwords valuesFit walk inWindowBy cornerP cornerQ placeOf readRows readAt refusedPoint reading leftmost lineNumber lineAfter
 first-of-two-in-a-line = refl
+
+-- the leftmost of points with the numbers 0, 1, 2 and 2, 1, 0; and of rows with the numbers 1, 2, 3 that all fail
+pub leftmost-first : (leftmost 3 (λ p. refusedPoint p) ≡ 1) × (leftmost 3 (λ p. refusedPoint (2 - p)) ≡ 2) × (firstOf (pointRows 3 (λ p. row (p + 1) true ∷ [])) ≡ 1)
+unfolding firstOf refusedPoint leftmost pointRows
+leftmost-first = (refl, refl, refl)
+
+-- three columns from column 2 on; and where the second dword is outside, columns up to it, past it, within it, and none
+pub columns : (coloursFrom (display 8 0 0 8 1) (values 0) 0 memory 2 3 ≡ 0x12 ∷ 0x13 ∷ 0x14 ∷ [])
+    × (allInside 16 (display 8 0 0 8 1) (values 3) 0 0 4 ≡ true)
+    × (allInside 16 (display 8 0 0 8 1) (values 3) 0 0 5 ≡ false)
+    × (allInside 16 (display 8 0 0 8 1) (values 3) 0 5 1 ≡ false)
+    × (allInside 16 (display 8 0 0 8 1) (values 3) 0 5 0 ≡ true)
+unfolding getPixel dwordPixel walk inWindowBy cornerP cornerQ placeOf allInside coloursFrom
+columns = (refl, refl, refl, refl, refl)
