@@ -13,7 +13,7 @@ use Rattle.screen.specs.Fields.{valuesFit}
 use Rattle.screen.specs.declared.ScreenValues.{ScreenValues}
 use Rattle.view.specs.Walk.{walk, inWindowBy, cornerP, cornerQ, placeOf}
 use Rattle.reader.specs.Read.{readRows, readAt, refusedPoint, reading, readingOf, answerOf}
-use Rattle.reader.specs.Line.{leftmost, lineNumber, lineAfter, pointRows}
+use Rattle.reader.specs.Line.{leftmost, lineNumber, lineAfter, pointRows, lineRows}
 use Rattle.reader.specs.Along.{allInside, coloursFrom}
 use Rattle.reader.specs.declared.Display.{Display}
 use Rattle.reader.specs.declared.PointAnswer.the-variants.{Shown, Refused}
@@ -210,6 +210,17 @@ pub first-of-two-in-a-line : lineNumber 16 (display 8 0 2 8 2) (values 0) 0 [] 8
     ≡ 18 ∷ 1 ∷ 2 ∷ 3 ∷ 4 ∷ 5 ∷ 21 ∷ 24 ∷ 24 ∷ 25 ∷ 18 ∷ []
 unfolding firstOf isDepth getPixel dwordPixel panelOk viewWidth wholeDwords valuesFit walk inWindowBy cornerP cornerQ placeOf readRows readAt refusedPoint reading leftmost lineNumber lineAfter
 first-of-two-in-a-line = refl
+
+-- the table's first number: 25 before 17, 25 by the second dword alone, 17, none, and 4 of a panel without a column
+pub line-table : firstOf (lineRows 16 (display 8 0 0 8 1) (values 4) 0 16 7)
+    ∷ firstOf (lineRows 16 (display 8 0 0 8 1) (values 3) 0 16 8)
+    ∷ firstOf (lineRows 16 (display 8 0 0 8 1) (values 0) 0 16 9)
+    ∷ firstOf (lineRows 16 (display 8 0 0 8 1) (values 0) 0 16 8)
+    ∷ firstOf (lineRows 16 (display 8 0 0 0 1) (values 0) 0 16 0)
+    ∷ []
+    ≡ 25 ∷ 25 ∷ 17 ∷ 0 ∷ 4 ∷ []
+unfolding firstOf isDepth panelOk viewWidth wholeDwords valuesFit walk inWindowBy cornerP cornerQ placeOf readRows pointRows lineRows
+line-table = refl
 
 -- the leftmost of points with the numbers 0, 1, 2 and 2, 1, 0; and of rows with the numbers 1, 2, 3 that all fail
 pub leftmost-first : (leftmost 3 (λ p. refusedPoint p) ≡ 1) × (leftmost 3 (λ p. refusedPoint (2 - p)) ≡ 2) × (firstOf (pointRows 3 (λ p. row (p + 1) true ∷ [])) ≡ 1)
