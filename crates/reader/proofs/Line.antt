@@ -53,18 +53,31 @@ unfolding leftmost
 first-refused zero points h g = absurd (omega arith)
 first-refused (suc n) points h g = rw (ne-eqb (points 0 .number) 0 (λ z. omega arith)) refl
 
+-- points that are all accepted have no number
+none-leftmost : (n : ℕ) (points : ℕ → Reading) → ((p : ℕ) → p < n → points p .number ≡ 0) → leftmost n points ≡ 0
+unfolding leftmost
+none-leftmost zero points f = refl
+none-leftmost (suc n) points f = rw (f 0 (omega arith)) (none-leftmost n (λ p. points (suc p)) (λ p h. f (suc p) (omega arith)))
+
 -- ---- the number and the buffer
 -- a number where a test fails
 unless : (b : Bool) (k : ℕ) → cond b 0 k ≡ cond (not b) k 0
 unless true k = refl
 unless false k = refl
 
+-- 0 is the number of no row
+pub numbered-line : (m : ℕ) (d : Display) (v : ScreenValues) (q n room : ℕ) → Numbered (lineRows m d v q n room)
+unfolding lineRows Numbered
+numbered-line m d v q n room =
+    let rows : ℕ → List Row = λ p. readRows m d v p q n in
+    numbered-append (pointRows (max 1 (d .width)) rows) (row 17 (not (eqb room (d .width))) ∷ []) (numbered-points (max 1 (d .width)) rows (λ p. numbered m d v p q n)) (lit< tt, tt)
+
 module _ (m : ℕ) (d : Display) (v : ScreenValues) (q : ℕ) (memory : List ℕ) where
   abbrev refusedAt : ℕ
   refusedAt = leftmost (max 1 (d .width)) (pointsOf m d v q memory)
 
   -- the first of the table
-  number-line : (room : ℕ) → lineNumber m d v q memory room ≡ firstOf (lineRows m d v q (length memory) room)
+  pub number-line : (room : ℕ) → lineNumber m d v q memory room ≡ firstOf (lineRows m d v q (length memory) room)
   unfolding lineNumber lineRows firstOf
   number-line room =
       let n = max 1 (d .width) in
@@ -112,6 +125,15 @@ module _ (m : ℕ) (d : Display) (v : ScreenValues) (q : ℕ) (memory old : List
         accepted = λ e p h. none-refused (max 1 (d .width)) (pointsOf m d v q memory) (accepted-points m d v q memory (length old) e) p (omega arith);
         colour = λ e p h. ap (λ (l : List ℕ). getD l p 0) (buffer-filled e) ∙ getD-tabulate (d .width) colours p h;
       }
+
+  -- no point is refused, and the buffer has a colour for each column
+  pub line-accepted : 0 < d .width → ((p : ℕ) → p < d .width → reading m d v p q memory .number ≡ 0) → length old ≡ d .width
+      → (lineNumber m d v q memory (length old) ≡ 0) × (lineAfter m d v q memory old ≡ tabulate (d .width) (λ p. reading m d v p q memory .colour))
+  line-accepted w f h =
+      let points = pointsOf m d v q memory in
+      let none = ap (λ (n : ℕ). leftmost n points) (max-eq-right w) ∙ none-leftmost (d .width) points f in
+      let accepted : numberOf ≡ 0 = rw (eq-eqb (length old) (d .width) h) at (number-length m d v q memory (length old) none) in
+      (accepted, buffer-filled accepted)
 
   -- both of a refusal
   refused-line : (k : ℕ) → 0 < k → k ≡ numberOf → (k ≡ numberOf) × (old ≡ lineAfter m d v q memory old)

@@ -167,7 +167,7 @@ module _ (t : Task) (buffer : List ℕ) (e : olderCompiling t (length buffer) .n
   small : olderMemory ≤ 262144
   small = omega arith
 
-  fine : (firstOf (fieldRows olderMemory older) ≡ 0) × (older .flag ≤ 1)
+  pub fine : (firstOf (fieldRows olderMemory older) ≡ 0) × (older .flag ≤ 1)
   fine =
       let r = read-accepted olderMemory (t .screen) older (sym (accepts olderMemory (t .screen) (screen-accepted t (length buffer) e))) in
       (r .2, r .3)

@@ -15,6 +15,7 @@ pub mod Listed
 pub mod Points
 pub mod Whole
 pub mod Demands
+pub mod Lines
 pub mod Kept
 pub mod Draw
 pub mod Show

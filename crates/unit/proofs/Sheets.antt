@@ -24,7 +24,7 @@ use Rattle.compiler.specs.Stream.{recordsWith, screenRecords, dataRecords, comm
 use Rattle.command.specs.Task.{shortForm, task, listRows, firstRefusal, allWords, wordRows, taskRefusal}
 use Rattle.compiler.specs.Compile.{roomRows, refusalOf, compiling, streamOf, bufferAfter}
 use Rattle.unit.specs.Sheet.{sheetAddress, sheetBit, sheetPixel, hostPixel, sheetSource, sheetMix, newPixel, changes, sheetByte, sheetCommand, sheetCommands, sheetAfter, sheetShows, shownAddress, shownPlace}
-use Rattle.unit.specs.Point.{sheetPoint}
+use Rattle.unit.specs.Point.{sheetPoint, sheetLine}
 use Rattle.unit.specs.Kept.{isShown, inGap, outside}
 use Rattle.unit.specs.Draw.{drawing, memoryDrawn, streamDrawn, drawingOf, answerOf, showRows, showing}
 use Rattle.unit.specs.Cases.{command}
@@ -180,6 +180,12 @@ pub showings : map (λ p. shows p 1) (0 ∷ 3 ∷ 4 ∷ 7 ∷ 8 ∷ [])
     ≡ (0 ∷ 0 ∷ 9 ∷ 8 ∷ 7 ∷ []) ∷ (0 ∷ 0 ∷ 12 ∷ 11 ∷ 7 ∷ []) ∷ (0 ∷ 0 ∷ 21 ∷ 20 ∷ 7 ∷ []) ∷ (0 ∷ 0 ∷ 24 ∷ 23 ∷ 7 ∷ []) ∷ (24 ∷ 0 ∷ 0 ∷ 0 ∷ 0 ∷ []) ∷ []
 unfolding allZero firstOf isDepth imageEnd fieldsOf wellFormed panelOk viewWidth viewHeight wholeDwords mainImage windowImage lineOk imageOk windowOk windowWhole fieldRows screenRows viewPixel inWindow windowPixel sheetBit sheetPixel sheetShows shownAddress shownPlace sheetPoint refusedPoint showRows showing
 showings = refl
+
+-- both lines of the panel, whole
+pub sheet-lines : (sheetLine (fieldsOf (screen 8)) old 0 ≡ 1 ∷ 2 ∷ 3 ∷ 4 ∷ 17 ∷ 18 ∷ 19 ∷ 20 ∷ [])
+    × (sheetLine (fieldsOf (screen 8)) old 1 ≡ 9 ∷ 10 ∷ 11 ∷ 12 ∷ 21 ∷ 22 ∷ 23 ∷ 24 ∷ [])
+unfolding fieldsOf viewWidth viewHeight mainImage windowImage viewPixel inWindow windowPixel sheetPixel sheetShows sheetLine
+sheet-lines = (refl, refl)
 
 -- the lines of 12 pixels, upright and turned by 180 degrees: a line of the panel's, then the other's first and last points
 abbrev wide-shows : ℕ → ℕ → ℕ → ℕ

@@ -76,7 +76,7 @@ room-placeless : (t : Task) (room : ℕ) → Placeless (roomRows t room)
 unfolding Placeless roomRows
 room-placeless t room = (refl, tt)
 
-read-placeless : (m : ℕ) (d : Display) (v : ScreenValues) (p q : ℕ) (memory : List ℕ) → Placeless (readRows m d v p q (length memory))
+pub read-placeless : (m : ℕ) (d : Display) (v : ScreenValues) (p q : ℕ) (memory : List ℕ) → Placeless (readRows m d v p q (length memory))
 unfolding Placeless readRows
 read-placeless m d v p q memory = (refl, (refl, (refl, (refl, (refl, (refl, (refl, (refl, (refl, tt)))))))))
 
