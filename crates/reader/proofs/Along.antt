@@ -162,8 +162,8 @@ module _ (d : Display) (v : ScreenValues) (q : ℕ) (deep : isDepth (d .depth) �
   by-side a n t h f j g =
       side (a + j) (omega arith) ∙ f (a + j) (omega arith) (omega arith) ∙ sym (side a (omega arith) ∙ f a (omega arith) (omega arith))
 
-  pub one-left : OneSide d v q 0 (c .from)
-  one-left = by-side 0 (c .from) false (omega (arith, in-panel)) (λ p h g. rw (lt-leb (c .from) p (omega arith)) refl)
+  pub one-left : OneSide d v q 0 (c .from - 0)
+  one-left = by-side 0 (c .from - 0) false (omega (arith, in-panel)) (λ p h g. rw (lt-leb (c .from) p (omega arith)) refl)
 
   pub one-middle : OneSide d v q (c .from) (c .to - c .from)
   one-middle = by-side (c .from) (c .to - c .from) true (omega (arith, in-panel)) (λ p h g. rw (le-leb (c .from) p h, lt-ltb p (c .to) (omega arith)) refl)

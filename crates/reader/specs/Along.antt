@@ -15,7 +15,7 @@ use Rattle.view.specs.declared.Steps.{Steps}
 use Rattle.reader.specs.Read.{lookedAt, dwordInside, colourAt}
 use Rattle.reader.specs.declared.Display.{Display}
 
--- the checks up to 21 have passed
+-- depth, rotation and the six values have passed their checks
 pub record Walkable (d : Display) (values : ScreenValues) : Type 0 where
   pub depth : isDepth (d .depth) ≡ true
   pub rotation : d .rotation < 4

@@ -3,9 +3,10 @@ ghost use mathlib.Core.Path.{_≡_};
 ghost use mathlib.Core.Bool.{true, cond};
 ghost use Prim.Native.Nat.{_+_, _-_, _*_, _/_, _%_, _≤_, _<_};
 ghost use lib.ListN.{length};
+ghost use lib.Seq.{sets};
 ghost use Rattle.record.specs.Lists.{tabulate};
 ghost use Rattle.pixel.specs.Depth.{isDepth};
-ghost use Rattle.pixel.specs.Pixel.{getPixel, storedPixel};
+ghost use Rattle.pixel.specs.Pixel.{storedPixel};
 ghost use Rattle.screen.specs.Screen.{memorySize};
 ghost use Rattle.view.specs.Steps.{windowColumns};
 ghost use Rattle.reader.specs.Line.{lineNumber, lineAfter};
@@ -75,30 +76,6 @@ fn fill_by(depth: u32, memory: &[u8], s: Steps, line: &mut [u16])
     }
 }
 
-// Fills a line with pixels of so many bytes that stand side by side, from byte `at` on.
-fn fill_pixels(memory: &[u8], bytes: usize, at: usize, line: &mut [u16])
-    requires { ⌜ (0 < bytes) × (bytes ≤ 2) × (at + length (now line) * bytes ≤ length (now memory)) ⌝ }
-    ensures { λ _. ⌜ now (line .exit) ≡ tabulate (length (now (line .entry))) (λ j. getPixel bytes (now (memory .entry)) (at + j * bytes)) ⌝ }
-{
-    let mut j = 0;
-    while j < line.len() {
-        line[j] = pixel_code::get_pixel(memory, bytes, at + j * bytes);
-        j += 1;
-    }
-}
-
-// The same, with the bytes of a pixel as a constant of the loop.
-fn fill_worker(memory: &[u8], bytes: usize, at: usize, line: &mut [u16])
-    requires { ⌜ (0 < bytes) × (bytes ≤ 2) × (at + length (now line) * bytes ≤ length (now memory)) ⌝ }
-    ensures { λ _. ⌜ now (line .exit) ≡ tabulate (length (now (line .entry))) (λ j. getPixel bytes (now (memory .entry)) (at + j * bytes)) ⌝ }
-{
-    if bytes == 1 {
-        fill_pixels(memory, 1, at, line);
-    } else {
-        fill_pixels(memory, 2, at, line);
-    }
-}
-
 // Fills a line with the colours of its columns, from panel column `from` on, on one side of the window's edges.
 fn fill_run(d: Display, values: ScreenValues, q: u32, from: u32, memory: &[u8], line: &mut [u16])
     requires { ⌜ Walkable d values × (OneSide d values q from (length (now line)) × ((length (now line) ≤ 4294967296) × (allInside (length (now memory)) d values q from (length (now line)) ≡ true))) ⌝ }
@@ -107,14 +84,8 @@ fn fill_run(d: Display, values: ScreenValues, q: u32, from: u32, memory: &[u8], 
     if line.len() == 0 {
         return;
     }
-    let depth = d.depth;
-    let s = view_code::steps_from(depth, d.rotation, d.flag, values, from, q);
-    if (8 <= depth) & ((s.step == depth as u64) & !s.back) {
-        let bits = record_code::minus(s.ahead, s.behind);
-        fill_worker(memory, (depth / 8) as usize, (bits / 8) as usize, line);
-        return;
-    }
-    fill_by(depth, memory, s, line);
+    let s = view_code::steps_from(d.depth, d.rotation, d.flag, values, from, q);
+    fill_by(d.depth, memory, s, line);
 }
 
 // Whether the dwords of all columns of panel line q are in a memory of so many bytes: left of the window's columns, among them, and right of them.
@@ -128,16 +99,37 @@ fn is_line_inside(size: u64, d: Display, values: ScreenValues, q: u32, c: Column
     left & (middle & right)
 }
 
+// Fills the columns from `from` up to `to` of a line, on one side of the window's edges.
+fn fill_part(
+    d: Display,
+    values: ScreenValues,
+    q: u32,
+    from: u32,
+    to: u32,
+    memory: &[u8],
+    line: &mut [u16],
+)
+    requires { ⌜ Walkable d values × (OneSide d values q from (to - from) × ((from ≤ to) × ((to ≤ length (now line)) × (allInside (length (now memory)) d values q from (to - from) ≡ true)))) ⌝ }
+    ensures { λ _. ⌜ now (line .exit) ≡ sets (now (line .entry)) from (coloursFrom d values q (now (memory .entry)) from (to - from)) ⌝ }
+{
+    fill_run(
+        d,
+        values,
+        q,
+        from,
+        memory,
+        &mut line[from as usize..to as usize],
+    );
+}
+
 // Fills a line with the colours of all columns: left of the window's columns, among them, and right of them.
 fn fill_line(d: Display, values: ScreenValues, q: u32, c: Columns, memory: &[u8], line: &mut [u16])
     requires { ⌜ Walkable d values × ((c ≡ windowColumns (d .depth) (d .rotation) (d .flag) values (d .width) q) × ((length (now line) ≡ d .width) × (allInside (length (now memory)) d values q 0 (d .width) ≡ true))) ⌝ }
     ensures { λ _. ⌜ now (line .exit) ≡ coloursFrom d values q (now (memory .entry)) 0 (d .width) ⌝ }
 {
-    let from = c.from as usize;
-    let to = c.to as usize;
-    fill_run(d, values, q, 0, memory, &mut line[..from]);
-    fill_run(d, values, q, c.from, memory, &mut line[from..to]);
-    fill_run(d, values, q, c.to, memory, &mut line[to..]);
+    fill_part(d, values, q, 0, c.from, memory, line);
+    fill_part(d, values, q, c.from, c.to, memory, line);
+    fill_part(d, values, q, c.to, d.width, memory, line);
 }
 
 // What panel line q shows in a memory of so many bytes: 0, and the line is filled, a colour for each panel column; or the first refusal number, and

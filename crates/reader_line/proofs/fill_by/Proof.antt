@@ -20,7 +20,7 @@ minus-requires : tie.Need-minus-requires Inv-loop μ-loop
 minus-requires c κs = search needs
 
 loop-holds : tie.Need-loop-holds Inv-loop μ-loop
-loop-holds c = (c .minus .ensures ∙ bits-start _, fill-start _ _)
+loop-holds c = (c .minus .ensures ∙ bits-start (c .before .before .before .args .s), fill-start _ _)
 
 -- a pixel that is left can be read
 colour-after-requires : tie.Need-colour-after-requires Inv-loop μ-loop
@@ -39,7 +39,7 @@ next-bits-requires : tie.Need-next-bits-requires Inv-loop μ-loop
 next-bits-requires c κs =
     let p = c .before .before .before .before .before .before .pre in
     let l = c .before .before .loop in
-    (p .near, bits-near _ _ (l .j) (p .near) (omega (arith, p .count, l .inv .1 .within)) (l .inv .0))
+    (p .near, bits-near (c .before .before .before .before .before .before .args .s) _ (l .j) (p .near) (omega (arith, p .count, l .inv .1 .within)) (l .inv .0))
 
 add-j : tie.Need-add-j Inv-loop μ-loop
 add-j c = search needs
@@ -49,9 +49,10 @@ loop-less c = omega (arith, c .before .before .loop-test .taken, c .before .befo
 
 loop-again : tie.Need-loop-again Inv-loop μ-loop
 loop-again c =
-    let p = c .before .before .before .before .before .before .before .pre in
+    let start = c .before .before .before .before .before .before .before in
+    let p = start .pre in
     let l = c .before .before .before .loop in
-    (c .next-bits .ensures ∙ bits-next _ _ (l .j) (p .start) (l .inv .0), fill-more _ _ _ (l .j) _ (c .before .before .loop-test .taken) (l .inv .1) (rw (l .inv .0) at (c .before .colour-after .ensures)))
+    (c .next-bits .ensures ∙ bits-next (start .args .s) _ (l .j) (p .start) (l .inv .0), fill-more _ _ _ (l .j) _ (c .before .before .loop-test .taken) (l .inv .1) (rw (l .inv .0) at (c .before .colour-after .ensures)))
 
 same-length : tie.Need-same-length Inv-loop μ-loop
 same-length c = c .before .loop .inv .1 .same

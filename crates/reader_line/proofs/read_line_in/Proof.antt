@@ -1,0 +1,74 @@
+use mathlib.Core.Path.{_≡_, sym, ap, _∙_}
+use mathlib.Core.Bool.{Bool, true, false}
+use native.Mathlib.Omega.{arith}
+use lib.ListN.{length, take}
+use borrow.Author.Needs.{needs}
+use borrow.Author.Tests.{not-true, not-false}
+use Rattle.record.specs.Checks.{firstOf}
+use Rattle.reader.specs.Read.{readRows}
+use Rattle.reader.proofs.Line.{line-refused, walkable, sized, line-outside, line-short, line-filled}
+use Rattle.reader_line.proofs.read_line_in.Statement.{statement}
+use Rattle.reader_line.proofs.read_line_in.Tie as tie
+
+-- past the checks of what is given none of them fails
+none-fails : (c : tie.Else1) → let a = c .before .before .before .before .args in firstOf (take 8 (readRows (a .size) (a .d) (a .values) 0 (a .q) (length (a .memory .now)))) ≡ 0
+none-fails c = sym (c .before .first-fault .ensures) ∙ c .if1 .left
+
+first-fault-requires : tie.Need-first-fault-requires
+first-fault-requires c κs = search needs
+
+returns : tie.Need-returns
+returns c = line-refused _ _ _ _ _ _ _ (omega (arith, c .if1 .taken)) (c .before .first-fault .ensures)
+
+window-columns-requires : tie.Need-window-columns-requires
+window-columns-requires c κs = search needs
+
+is-line-inside-requires : tie.Need-is-line-inside-requires
+is-line-inside-requires c κs = let a = c .before .before .before .before .before .args in (walkable (a .size) (a .d) (a .values) (a .q) (a .memory .now) (a .line .now) (none-fails (c .before)), c .window-columns .ensures)
+
+returns-2 : tie.Need-returns-2
+returns-2 c = line-outside _ _ _ _ _ _ (none-fails (c .before .before .before)) (sym (c .before .is-line-inside .ensures) ∙ not-true _ (c .if2 .taken))
+
+cast-if3 : tie.Need-cast-if3
+cast-if3 c = search needs
+
+returns-3 : tie.Need-returns-3
+returns-3 c =
+    line-short _ _ _ _ _ _ (none-fails (c .before .before .before .before .before)) (sym (c .before .before .before .is-line-inside .ensures) ∙ not-false _ (c .before .before .if2 .left)) (c .if3 .taken)
+
+fill-line-requires : tie.Need-fill-line-requires
+fill-line-requires c κs =
+    let past = c .before .before .before .before .before .before in
+    let a = past .before .before .before .before .args in
+    let none = none-fails past in
+    let all = sym (c .before .before .before .before .is-line-inside .ensures) ∙ not-false _ (c .before .before .before .if2 .left) in (
+      walkable (a .size) (a .d) (a .values) (a .q) (a .memory .now) (a .line .now) none,
+      (c .before .before .before .before .before .window-columns .ensures, (c .before .if3 .left, rw (sized (a .size) (a .d) (a .values) (a .q) (a .memory .now) (a .line .now) none) all)),
+    )
+
+same-length : tie.Need-same-length
+same-length c = search needs
+
+returns-4 : tie.Need-returns-4
+returns-4 c =
+    let filled = c .before .before in
+    let inside = filled .before .before .before .before .before in
+    let past = inside .before .before in
+    let all = sym (inside .is-line-inside .ensures) ∙ not-false _ (filled .before .before .before .before .if2 .left) in
+    let done = line-filled _ _ _ _ _ _ (none-fails past) all (filled .before .before .if3 .left) in
+    (done .0, filled .fill-line .ensures ∙ done .1)
+
+pub read-line-in-spec : {M : Type 1} → statement M
+read-line-in-spec =
+    tie.close
+    (tie.spec
+    first-fault-requires
+    returns
+    window-columns-requires
+    is-line-inside-requires
+    returns-2
+    cast-if3
+    returns-3
+    fill-line-requires
+    same-length
+    returns-4)
