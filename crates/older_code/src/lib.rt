@@ -10,6 +10,7 @@ ghost use Rattle.command.specs.Task.{task};
 ghost use Rattle.compiler.specs.Compile.{compilingOf, answerOf, numbersOf};
 ghost use Rattle.compiler.specs.Part.{RefusedPart};
 ghost use Rattle.reader.specs.Read.{reading, readingOf, answerOf as pointOf};
+ghost use Rattle.reader.specs.Line.{lineNumber, lineAfter};
 ghost use Rattle.older.specs.Bytes.{olderMemory, olderBytes, olderValues};
 ghost use Rattle.older.specs.Compile.{olderRecords, lentRows, olderCompiling, olderBuffer};
 use compiler::Compiled;
@@ -178,4 +179,12 @@ pub fn read_point(d: Display, values: ScreenValues, p: u32, q: u32, memory: &[u8
     ensures { λ r. ⌜ r ≡ pointOf (reading olderMemory d values p q (now (memory .entry))) ⌝ }
 {
     reader_code::read_point_in(MEMORY, d, values, p, q, memory)
+}
+
+// What panel line q shows: a colour for each column of the line, and 0; or the first refusal number, and the line is as it was.
+pub fn read_line(d: Display, values: ScreenValues, q: u32, memory: &[u8], line: &mut [u16]) -> u32
+    ensures { λ r. ⌜ r ≡ lineNumber olderMemory d values q (now (memory .entry)) (length (now (line .entry))) ⌝ }
+    ensures { λ _. ⌜ now (line .exit) ≡ lineAfter olderMemory d values q (now (memory .entry)) (now (line .entry)) ⌝ }
+{
+    reader_line::read_line_in(MEMORY, d, values, q, memory, line)
 }

@@ -4,9 +4,10 @@ use Prim.Native.Nat.{ℕ, _+_, _-_, _*_, _/_, _%_, _^_, min}
 use mathlib.Core.List.{List, [], _∷_, _++_}
 use mathlib.Core.Bool.{cond}
 use lib.Dec.{eqb}
+use lib.ListN.{getD, replicate}
 use Rattle.screen.specs.Screen.{memorySize}
 use Rattle.screen.specs.declared.ScreenValues.{ScreenValues}
-use Rattle.reader.specs.Read.{reading}
+use Rattle.reader.specs.Line.{lineAfter}
 use Rattle.reader.specs.declared.Display.{Display}
 use Rattle.reader.specs.declared.PointAnswer.{PointAnswer}
 use Rattle.reader.specs.declared.PointAnswer.the-variants.{Shown, Refused}
@@ -44,9 +45,13 @@ unfoldable pub pixelBytes : ℕ → ℕ → List ℕ
 pixelBytes depth c =
     cond (eqb depth 16) (fromFive (c / 2048 % 32) ∷ fromSix (c / 32 % 64) ∷ fromFive (c % 32) ∷ []) (c % 256 ∷ [])
 
--- the bytes of panel point (p, q): the colour that the point reader gives, 0 where it refuses
+-- the colours of panel line q: what the line reader leaves in a line of zeros, and so 0 where it refuses
+unfoldable pub lineColours : Display → ScreenValues → ℕ → List ℕ → List ℕ
+lineColours d values q memory = lineAfter memorySize d values q memory (replicate (d .width) 0)
+
+-- the bytes of panel point (p, q)
 unfoldable pub pointBytes : Display → ScreenValues → ℕ → List ℕ → ℕ → List ℕ
-pointBytes d values q memory p = pixelBytes (d .depth) (reading memorySize d values p q memory .colour)
+pointBytes d values q memory p = pixelBytes (d .depth) (getD (lineColours d values q memory) p 0)
 
 -- points of a line of the panel that have room
 abbrev pub pixelsIn : Display → ℕ → ℕ

@@ -7,6 +7,7 @@ ghost use Rattle.screen.specs.Values.{valuesWith};
 ghost use Rattle.compiler.specs.Compile.{compiling, bufferAfter};
 ghost use Rattle.chip.specs.Play.{playing, played};
 ghost use Rattle.reader.specs.Read.{reading};
+ghost use Rattle.reader.specs.Line.{lineNumber, lineAfter};
 ghost use Rattle.reader.specs.Looking.{looking};
 ghost use Rattle.unit.specs.Draw.{drawing, streamDrawn, memoryDrawn};
 ghost use Rattle.serial.specs.State.{newPlayer};
@@ -116,6 +117,33 @@ pub extern "C" fn s1d_read_point(
     answers_code::point_of(reader_code::see(depth, memory, at))
 }
 
+// Fills the line with what panel line q shows, a colour for each panel column.
+#[no_mangle]
+pub extern "C" fn s1d_read_line(
+    depth: u32,
+    rotation: u32,
+    flag: u32,
+    width: u32,
+    height: u32,
+    values: &[u32; 6],
+    q: u32,
+    memory: &[u8],
+    line: &mut [u16],
+) -> u32
+    ensures { λ r. ⌜ r ≡ lineNumber memorySize (displayWith depth rotation flag width height) (valuesWith (now (values .entry))) q (now (memory .entry)) (length (now (line .entry))) ⌝ }
+    ensures { λ r. ⌜ now (line .exit) ≡ lineAfter memorySize (displayWith depth rotation flag width height) (valuesWith (now (values .entry))) q (now (memory .entry)) (now (line .entry)) ⌝ }
+{
+    let d = Display {
+        depth,
+        rotation,
+        flag,
+        width,
+        height,
+    };
+    let v = screen_values::values_given(*values);
+    reader_line::read_line(d, v, q, memory, line)
+}
+
 // Compiles, then plays the stream.
 #[no_mangle]
 pub extern "C" fn s1d_draw(
@@ -217,6 +245,33 @@ pub extern "C" fn s1d06_read_point(
         81920,
     );
     answers_code::point_of(reader_code::see(depth, memory, older))
+}
+
+// The same of the S1D13706's memory.
+#[no_mangle]
+pub extern "C" fn s1d06_read_line(
+    depth: u32,
+    rotation: u32,
+    flag: u32,
+    width: u32,
+    height: u32,
+    values: &[u32; 6],
+    q: u32,
+    memory: &[u8],
+    line: &mut [u16],
+) -> u32
+    ensures { λ r. ⌜ r ≡ lineNumber olderMemory (displayWith depth rotation flag width height) (valuesWith (now (values .entry))) q (now (memory .entry)) (length (now (line .entry))) ⌝ }
+    ensures { λ r. ⌜ now (line .exit) ≡ lineAfter olderMemory (displayWith depth rotation flag width height) (valuesWith (now (values .entry))) q (now (memory .entry)) (now (line .entry)) ⌝ }
+{
+    let d = Display {
+        depth,
+        rotation,
+        flag,
+        width,
+        height,
+    };
+    let v = screen_values::values_given(*values);
+    older_code::read_line(d, v, q, memory, line)
 }
 
 // A ring without a sample.
