@@ -1,5 +1,5 @@
-//! Random inputs, from a seed: records, lists in both forms, words, streams, players, points, samples and
-//! strips, whole and damaged.
+//! Random inputs, from a seed: records, lists in both forms, words, streams, players, points, panel lines,
+//! samples and strips, whole and damaged.
 
 use crate::answers::{Form, Player, Settings};
 use crate::chart::Told;
@@ -973,6 +973,158 @@ pub fn point(rng: &mut Rng, memory: u64) -> (Settings, u32, u32) {
         *number = rng.near((*number).into()) as u32;
     }
     (settings, p, q)
+}
+
+/// Settings, values, a panel line and the length of a line buffer, on a chip with a memory of so many bytes:
+/// mostly accepted. The window is often at an edge of the panel or past it, and the line often begins, ends or
+/// crosses the window's edge at an end of the memory or just outside.
+pub fn line(rng: &mut Rng, memory: u64) -> (Settings, u32, usize) {
+    let record = screen(rng, memory);
+    let (depth, rotation) = (u32::from(record[0]), u32::from(record[1]));
+    let (width, height) = (field(&record, 4, 2), field(&record, 6, 2));
+    let mut q = rng.offset(height - 1) as u32;
+    let k = u64::from(32 / depth);
+    let (x_step, y_step) = if rotation % 2 == 0 { (k, 1) } else { (1, k) };
+    let (x_start, x_end) = edges_across(rng, width / x_step - 1);
+    let (y_start, y_end) = edges_down(rng, u64::from(q) / y_step, height / y_step - 1);
+    let mut settings = Settings {
+        depth,
+        rotation,
+        flag: u32::from(!rng.one_in(8)),
+        width: width as u32,
+        height: height as u32,
+        values: [0, 0, 0, 0, (x_start | x_end << 16) as u32, (y_start | y_end << 16) as u32],
+    };
+
+    // Columns where an image begins or ends, and any other: the window's, and main's beside it.
+    let (left, right) = ((x_start * x_step).min(width), ((x_end + 1) * x_step).min(width));
+    let crosses =
+        settings.flag == 1 && left < right && (y_start..=y_end).contains(&(u64::from(q) / y_step));
+    let mut main = vec![0, width - 1];
+    let mut window = Vec::new();
+    if crosses {
+        main.extend([left.saturating_sub(1), right.min(width - 1)]);
+        main.retain(|column| !(left..right).contains(column));
+        window.extend([left, right - 1, rng.between(left, right - 1)]);
+    } else {
+        main.push(rng.below(width));
+    }
+    let corner = (x_start * x_step, y_start * y_step);
+    for (i, columns, corner) in [(0, main, (0, 0)), (2, window, corner)] {
+        if !columns.is_empty() {
+            let image = image_for(rng, memory, &settings, &columns, corner, q);
+            (settings.values[i], settings.values[i + 1]) = image;
+        }
+    }
+
+    for _ in 0..rng.pick(&[0, 0, 0, 0, 0, 1, 1, 2, 3]) {
+        let number = match rng.below(8) {
+            0 => &mut settings.depth,
+            1 => &mut settings.rotation,
+            2 => &mut settings.flag,
+            3 => &mut settings.width,
+            4 => &mut settings.height,
+            5 => &mut settings.values[rng.below(6) as usize],
+            _ => {
+                q = rng.pick(&[settings.height, settings.height, settings.height - 1, u32::MAX]);
+                continue;
+            }
+        };
+        *number = rng.near((*number).into()) as u32;
+    }
+    let room = line_room(rng, settings.width.min(4096) as usize);
+    (settings, q, room)
+}
+
+/// The edges of a window along a panel line whose last step is `last`: in the middle, at an edge, past it, or
+/// the wrong way round.
+fn edges_across(rng: &mut Rng, last: u64) -> (u64, u64) {
+    const MOST: u64 = 0x3FF;
+    let (a, b) = (rng.between(0, last), rng.between(0, last));
+    match rng.below(16) {
+        0 => (0, last),
+        1 => (0, a),
+        2 => (a, last),
+        3 => (last.min(1), last),
+        4 => (0, last.saturating_sub(1)),
+        5 => (a, rng.between(last, MOST)),
+        6 => (rng.between((last + 1).min(MOST), MOST), MOST),
+        7 => (a.max(b), a.min(b)),
+        8 => (a, a),
+        9 => (last.min(1), last.saturating_sub(1)),
+        _ => (a.min(b), a.max(b)),
+    }
+}
+
+/// The edges of a window down a panel whose last step is `last`: mostly around one step.
+fn edges_down(rng: &mut Rng, step: u64, last: u64) -> (u64, u64) {
+    let (a, b) = (rng.offset(last), rng.offset(last));
+    match rng.below(16) {
+        0 => (a, b),
+        1 => (a.min(b), a.max(b)),
+        2 if step < last => (step + 1, rng.between(step + 1, last)),
+        3 if step > 0 => (rng.between(0, step - 1), step - 1),
+        4 => (step, step),
+        _ => (rng.offset(step), rng.between(step, last)),
+    }
+}
+
+/// Start and offset of an image that begins at a corner of the panel and is shown at columns of line q: such
+/// that these are in the memory, where they can be; or that one of them is at an end of it, or just outside.
+fn image_for(
+    rng: &mut Rng,
+    memory: u64,
+    settings: &Settings,
+    columns: &[u64],
+    (x, y): (u64, u64),
+    q: u32,
+) -> (u32, u32) {
+    let dwords = memory as i64 / 4;
+    let k = i64::from(32 / settings.depth);
+    let (x, q) = (x as i64, i64::from(q) - y as i64);
+    // How often the offset is taken at a column.
+    let times = |column: u64| match settings.rotation % 2 {
+        0 => q,
+        _ => column as i64 - x,
+    };
+    let most = columns.iter().map(|&column| times(column)).max().unwrap().max(1);
+    let fit = (dwords / most).min(0x3FF) as u64;
+    let offset = match rng.below(6) {
+        0 => fit,
+        1 => rng.below(0x400),
+        2 => rng.below(3),
+        _ => rng.offset(fit),
+    } as i64;
+    // The dword of a column, counted from the start.
+    let away = |column: u64| match settings.rotation {
+        0 => q * offset + (column as i64 - x) / k,
+        1 => times(column) * offset - q / k,
+        2 => -(q * offset + (column as i64 - x) / k),
+        _ => q / k - times(column) * offset,
+    };
+    let ends = columns.iter().map(|&column| away(column));
+    let (low, high) = (ends.clone().min().unwrap(), ends.max().unwrap());
+    let (least, most) = ((-low).max(0), (dwords - 1 - high).min(0xFFFF));
+    let start = if least <= most && !rng.one_in(3) {
+        least + rng.offset((most - least) as u64) as i64
+    } else {
+        let end = rng.pick(&[-1, 0, dwords - 1, dwords]);
+        end - away(rng.pick(columns))
+    };
+    (start.clamp(0, 0xFFFF) as u32, offset as u32)
+}
+
+/// The length of a buffer for a line of so many columns: mostly as many.
+pub fn line_room(rng: &mut Rng, columns: usize) -> usize {
+    match rng.below(24) {
+        0 => columns.saturating_sub(1),
+        1 => columns + 1,
+        2 => 0,
+        3 => rng.below(columns as u64 + 1) as usize,
+        4 => columns + rng.size(100) as usize,
+        5 => rng.pick(&[1, 8, 1024, 1025, 2 * columns]),
+        _ => columns,
+    }
 }
 
 // ---- Samples and strips ----

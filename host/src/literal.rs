@@ -1,7 +1,9 @@
 //! Records that playing takes, played as papers 01 and 02 word it: pixels one by one, line by line, in the
-//! direction named.
+//! direction named. And a panel line as request i) of paper 02 words it: point by point.
 
 use std::collections::HashMap;
+
+use crate::answers::Point;
 
 /// What a blit was.
 #[derive(Clone, Copy, Debug)]
@@ -93,4 +95,20 @@ pub fn play(stream: &[u8], memory: &mut [u8]) -> Vec<Blit> {
 fn combined(code: u8, s: u8, d: u8) -> u8 {
     let when = |bit: u8, pattern: u8| if code >> bit & 1 == 1 { pattern } else { 0 };
     when(3, s & d) | when(2, s & !d) | when(1, !s & d) | when(0, !s & !d)
+}
+
+/// The colours of a panel line, for a line buffer of so many, by a point reader that is given the column; or
+/// the number of the leftmost refused point, or 17. A panel of width 0 is asked for column 0.
+pub fn line(width: u32, room: usize, read: impl Fn(u32) -> Point) -> Result<Vec<u16>, u32> {
+    let mut colours = Vec::new();
+    for p in 0..width.max(1) {
+        match read(p) {
+            Point { number: 0, colour, .. } => colours.push(colour.try_into().unwrap()),
+            Point { number, .. } => return Err(number),
+        }
+    }
+    if room != colours.len() {
+        return Err(17);
+    }
+    Ok(colours)
 }

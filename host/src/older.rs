@@ -2,7 +2,7 @@
 //! register for each byte, and no blits.
 
 use crate::answers::{Compiled, Point, Settings, Values};
-use crate::reference::{count, put_record, read_point_in, Screen};
+use crate::reference::{count, put_record, read_line_in, read_point_in, Screen};
 
 /// Bytes of the display memory.
 pub const MEMORY: usize = 81_920;
@@ -79,4 +79,9 @@ pub fn values(bytes: &[u8; REGISTERS]) -> Values {
 /// The colour that a panel point shows, and where it stands.
 pub fn read_point(screen: &Settings, p: u32, q: u32, memory: &[u8]) -> Point {
     read_point_in(MEMORY, screen, p, q, memory)
+}
+
+/// Fills a line with the colours that panel line q shows, one for each column; gives 0 or the refusal.
+pub fn read_line(screen: &Settings, q: u32, memory: &[u8], line: &mut [u16]) -> u32 {
+    read_line_in(MEMORY, screen, q, memory, line)
 }

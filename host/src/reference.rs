@@ -1,9 +1,11 @@
-//! Paper 01 with requests c), e), g) and h) of paper 02, in plain Rust: compiling, playing, the point reader.
-//! Playing in blocks is in `serial`, the older chip in `older`, turning a list in `forms`; the screen and
-//! the point are read here for a memory of any size.
+//! Paper 01 with requests c), e), g), h) and i) of paper 02, in plain Rust: compiling, playing, the point
+//! reader, panel lines. Playing in blocks is in `serial`, the older chip in `older`, turning a list in
+//! `forms`; the screen, the point and the line are read here for a memory of any size.
 //!
-//! `compile`, `play`, `draw` and `read_point` are not inlined, so that timing them beside the library
-//! is fair.
+//! `compile`, `play`, `draw`, `read_point` and `read_line` are not inlined, so that timing them beside the
+//! library is fair.
+
+use std::ops::Range;
 
 use crate::answers::{Compiled, Drawn, Played, Point, Settings};
 
@@ -977,10 +979,9 @@ fn found(size: usize, screen: &Settings, p: u32, q: u32, memory: &[u8]) -> Resul
     Ok(Point { number: 0, colour, address, bit })
 }
 
-/// The dword where the chip's walk finds a point, inside the memory or not, and the pixel in it; or
-/// refusal 1 to 5, 21 or 24.
+/// Refusal 1 to 5 or 21 of what the point reader is told of the screen.
 #[inline(always)]
-pub fn walk(screen: &Settings, p: u32, q: u32) -> Result<(i64, u32), u32> {
+fn accept(screen: &Settings) -> Result<(), u32> {
     let &Settings { depth, rotation, flag, width, height, values } = screen;
     if flag > 1 {
         return Err(1);
@@ -989,16 +990,42 @@ pub fn walk(screen: &Settings, p: u32, q: u32) -> Result<(i64, u32), u32> {
     if values.iter().zip(FIELDS).any(|(value, field)| value & !field != 0) {
         return Err(21);
     }
+    Ok(())
+}
+
+/// The window's edges, and how many columns and lines a step of them is.
+struct Edges {
+    x_start: u32,
+    x_end: u32,
+    x_step: u32,
+    y_start: u32,
+    y_end: u32,
+    y_step: u32,
+}
+
+#[inline(always)]
+fn edges(screen: &Settings) -> Edges {
+    let halves = |value: u32| (value & 0x3FF, value >> 16);
+    let ((x_start, x_end), (y_start, y_end)) = (halves(screen.values[4]), halves(screen.values[5]));
+    // X is counted in dwords at 0 and 180 degrees, Y at 90 and 270.
+    let k = 32 / screen.depth;
+    let (x_step, y_step) = if screen.rotation % 2 == 0 { (k, 1) } else { (1, k) };
+    Edges { x_start, x_end, x_step, y_start, y_end, y_step }
+}
+
+/// The dword where the chip's walk finds a point, inside the memory or not, and the pixel in it; or
+/// refusal 1 to 5, 21 or 24.
+#[inline(always)]
+pub fn walk(screen: &Settings, p: u32, q: u32) -> Result<(i64, u32), u32> {
+    accept(screen)?;
+    let &Settings { depth, rotation, width, height, values, .. } = screen;
     if p >= width || q >= height {
         return Err(24);
     }
 
     let k = 32 / depth;
-    let edges = |value: u32| (value & 0x3FF, value >> 16);
-    let ((x_start, x_end), (y_start, y_end)) = (edges(values[4]), edges(values[5]));
-    // X is counted in dwords at 0 and 180 degrees, Y at 90 and 270.
-    let (x_step, y_step) = if rotation % 2 == 0 { (k, 1) } else { (1, k) };
-    let in_window = flag == 1
+    let Edges { x_start, x_end, x_step, y_start, y_end, y_step } = edges(screen);
+    let in_window = screen.flag == 1
         && (x_start..=x_end).contains(&(p / x_step))
         && (y_start..=y_end).contains(&(q / y_step));
     let (start, offset, p, q) = if in_window {
@@ -1015,4 +1042,170 @@ pub fn walk(screen: &Settings, p: u32, q: u32) -> Result<(i64, u32), u32> {
         2 => (s - across(q) - along(p), k - 1 - p % k),
         _ => (s - across(p) + along(q), q % k),
     })
+}
+
+// ---- A panel line ----
+
+/// Fills a line with the colours that panel line q shows, one for each column. Gives 0, or the refusal,
+/// and then the line is as it was.
+#[inline(never)]
+pub fn read_line(screen: &Settings, q: u32, memory: &[u8], line: &mut [u16]) -> u32 {
+    read_line_in(MEMORY, screen, q, memory, line)
+}
+
+/// The same, on a chip with a memory of `size` bytes.
+#[inline(always)]
+pub(crate) fn read_line_in(
+    size: usize,
+    screen: &Settings,
+    q: u32,
+    memory: &[u8],
+    line: &mut [u16],
+) -> u32 {
+    if memory.len() != size {
+        return 18;
+    }
+    match runs(size, screen, q, line.len()) {
+        Ok(runs) => {
+            for run in runs {
+                run.show(screen.depth, memory, &mut line[run.columns.clone()]);
+            }
+            0
+        }
+        Err(number) => number,
+    }
+}
+
+/// Columns side by side that show one image. Pixels are counted from the memory's first.
+struct Run {
+    columns: Range<usize>,
+    /// The pixel of the first column, and the way from column to column.
+    first: i64,
+    step: i64,
+}
+
+/// Main left of the window, the window, and main right of it; or refusal 1 to 5, 17, 21, 24 or 25.
+fn runs(size: usize, screen: &Settings, q: u32, room: usize) -> Result<[Run; 3], u32> {
+    accept(screen)?;
+    let &Settings { depth, rotation, flag, width, height, values } = screen;
+    if q >= height {
+        return Err(24);
+    }
+
+    let Edges { x_start, x_end, x_step, y_start, y_end, y_step } = edges(screen);
+    let (x, y) = (x_start * x_step, y_start * y_step);
+    let (left, right) = (x.min(width), ((x_end + 1) * x_step).min(width));
+    let in_window = flag == 1 && left < right && (y_start..=y_end).contains(&(q / y_step));
+    let (left, right) = if in_window { (left, right) } else { (0, 0) };
+
+    let k = i64::from(32 / depth);
+    // Columns of an image that begins at column x and line y.
+    let run = |columns: Range<u32>, start: u32, offset: u32, x: u32, y: u32| {
+        let (s, o) = (k * i64::from(start), k * i64::from(offset));
+        let (p, q) = (i64::from(columns.start) - i64::from(x), i64::from(q) - i64::from(y));
+        let (first, step) = match rotation {
+            0 => (s + q * o + p, 1),
+            1 => (s + p * o + k - 1 - q, o),
+            2 => (s - q * o + k - 1 - p, -1),
+            _ => (s - p * o + q, -o),
+        };
+        Run { columns: columns.start as usize..columns.end as usize, first, step }
+    };
+    let main = |columns: Range<u32>| run(columns, values[0], values[1], 0, 0);
+    let window = run(left..right, values[2], values[3], x, y);
+    let runs = [main(0..left), window, main(right..width)];
+    if !runs.iter().all(|run| run.inside(k * size as i64 / 4)) {
+        return Err(25);
+    }
+    if room != width as usize {
+        return Err(17);
+    }
+    Ok(runs)
+}
+
+impl Run {
+    /// Whether its pixels are all among so many: they go one way, so the two at the ends say it.
+    fn inside(&self, pixels: i64) -> bool {
+        let last = self.first + (self.columns.len() as i64 - 1) * self.step;
+        let pixels = 0..pixels;
+        self.columns.is_empty() || pixels.contains(&self.first) && pixels.contains(&last)
+    }
+
+    /// Puts its colours into its part of the line.
+    fn show(&self, depth: u32, memory: &[u8], line: &mut [u16]) {
+        match self.step {
+            _ if line.is_empty() => {}
+            1 => beside(depth, self.dwords(depth, self.first, memory), line),
+            -1 => {
+                let last = self.first + 1 - line.len() as i64;
+                beside_back(depth, self.dwords(depth, last, memory), line);
+            }
+            _ => self.apart(depth, memory, line),
+        }
+    }
+
+    /// The bytes of its pixels, which are side by side from one on: whole dwords.
+    fn dwords<'a>(&self, depth: u32, from: i64, memory: &'a [u8]) -> &'a [u8] {
+        let byte = |pixels: usize| pixels * depth as usize / 8;
+        &memory[byte(from as usize)..][..byte(self.columns.len())]
+    }
+
+    /// Colours of pixels that stand at one place of dwords.
+    fn apart(&self, depth: u32, memory: &[u8], line: &mut [u16]) {
+        let bit = depth * self.first as u32;
+        let mut at = (bit / 8) as usize;
+        let step = (self.step * i64::from(depth) / 8) as usize;
+        let (shift, mask) = ((8 - bit % 8).saturating_sub(depth), (1u32 << depth) - 1);
+        for colour in line {
+            *colour = match depth {
+                16 => u16::from_le_bytes([memory[at], memory[at + 1]]),
+                _ => u16::from(memory[at]) >> shift & mask as u16,
+            };
+            at = at.wrapping_add(step);
+        }
+    }
+}
+
+/// The pixels of some bytes, from the left.
+fn beside(depth: u32, bytes: &[u8], line: &mut [u16]) {
+    match depth {
+        1 => split::<1, 8>(bytes.iter(), line, |i| 7 - i),
+        2 => split::<2, 4>(bytes.iter(), line, |i| 6 - 2 * i),
+        4 => split::<4, 2>(bytes.iter(), line, |i| 4 - 4 * i),
+        8 => split::<8, 1>(bytes.iter(), line, |_| 0),
+        _ => join(bytes.chunks_exact(2), line),
+    }
+}
+
+/// The pixels of some bytes, from the right.
+fn beside_back(depth: u32, bytes: &[u8], line: &mut [u16]) {
+    match depth {
+        1 => split::<1, 8>(bytes.iter().rev(), line, |i| i),
+        2 => split::<2, 4>(bytes.iter().rev(), line, |i| 2 * i),
+        4 => split::<4, 2>(bytes.iter().rev(), line, |i| 4 * i),
+        8 => split::<8, 1>(bytes.iter().rev(), line, |_| 0),
+        _ => join(bytes.chunks_exact(2).rev(), line),
+    }
+}
+
+/// The pixels of each byte, of DEPTH bits, the i-th from a place on.
+#[inline(always)]
+fn split<'a, const DEPTH: u32, const PIXELS: usize>(
+    bytes: impl Iterator<Item = &'a u8>,
+    line: &mut [u16],
+    place: impl Fn(usize) -> usize,
+) {
+    for (colours, &byte) in line.chunks_exact_mut(PIXELS).zip(bytes) {
+        for (i, colour) in colours.iter_mut().enumerate() {
+            *colour = u16::from(byte) >> place(i) & ((1 << DEPTH) - 1);
+        }
+    }
+}
+
+/// The pixel of each two bytes.
+#[inline(always)]
+fn join<'a>(pairs: impl Iterator<Item = &'a [u8]>, line: &mut [u16]) {
+    for (colour, pair) in line.iter_mut().zip(pairs) {
+        *colour = u16::from_le_bytes([pair[0], pair[1]]);
+    }
 }

@@ -1,5 +1,6 @@
 //! The plain sheet of paper 01, with the line lengths of paper 02's request c), the places of its request
-//! e) and the operations of its request h), from the records themselves. It is fed accepted input only.
+//! e), the operations of its request h) and the panel lines of its request i), from the records themselves. It
+//! is fed accepted input only.
 
 fn number(bytes: &[u8], at: usize) -> usize {
     usize::from(bytes[at]) + 256 * usize::from(bytes[at + 1])
@@ -208,6 +209,11 @@ fn shown(screen: &[u8], p: usize, q: usize) -> (Surface, usize, usize) {
 pub fn shows(screen: &[u8], sheet: &[u8], p: usize, q: usize) -> u32 {
     let (on, x, y) = shown(screen, p, q);
     on.pixel(sheet, x, y)
+}
+
+/// What the sheet shows on panel line q, one pixel for each column.
+pub fn line(screen: &[u8], sheet: &[u8], q: usize) -> Vec<u16> {
+    (0..number(screen, 4)).map(|p| shows(screen, sheet, p, q).try_into().unwrap()).collect()
 }
 
 /// Where the pixel that panel point (p, q) shows stands: its byte, at depth 16 the low one, and the

@@ -59,6 +59,20 @@ extern "C" {
         memory_length: usize,
     ) -> Point;
 
+    fn s1d_read_line(
+        depth: u32,
+        rotation: u32,
+        flag: u32,
+        width: u32,
+        height: u32,
+        values: *const u32,
+        q: u32,
+        memory: *const u8,
+        memory_length: usize,
+        line: *mut u16,
+        line_length: usize,
+    ) -> u32;
+
     fn s1d_draw(
         form: u32,
         screen: *const u8,
@@ -146,9 +160,23 @@ extern "C" {
         memory: *const u8,
         memory_length: usize,
     ) -> Point;
+
+    fn s1d06_read_line(
+        depth: u32,
+        rotation: u32,
+        flag: u32,
+        width: u32,
+        height: u32,
+        values: *const u32,
+        q: u32,
+        memory: *const u8,
+        memory_length: usize,
+        line: *mut u16,
+        line_length: usize,
+    ) -> u32;
 }
 
-/// Compiling, and the point reader, of either chip.
+/// Compiling, the point reader and panel lines, of either chip.
 type Compile = unsafe extern "C" fn(
     u32,
     *const u8,
@@ -162,6 +190,19 @@ type Compile = unsafe extern "C" fn(
 ) -> Compiled;
 type ReadPoint =
     unsafe extern "C" fn(u32, u32, u32, u32, u32, *const u32, u32, u32, *const u8, usize) -> Point;
+type ReadLine = unsafe extern "C" fn(
+    u32,
+    u32,
+    u32,
+    u32,
+    u32,
+    *const u32,
+    u32,
+    *const u8,
+    usize,
+    *mut u16,
+    usize,
+) -> u32;
 
 // Each pointer below comes from a slice with its length, and a slice lent for writing is lent to
 // nobody else.
@@ -234,6 +275,34 @@ fn read_point_by(function: ReadPoint, screen: &Settings, p: u32, q: u32, memory:
 
 pub fn read_point(screen: &Settings, p: u32, q: u32, memory: &[u8]) -> Point {
     read_point_by(s1d_read_point, screen, p, q, memory)
+}
+
+fn read_line_by(
+    function: ReadLine,
+    screen: &Settings,
+    q: u32,
+    memory: &[u8],
+    line: &mut [u16],
+) -> u32 {
+    unsafe {
+        function(
+            screen.depth,
+            screen.rotation,
+            screen.flag,
+            screen.width,
+            screen.height,
+            screen.values.as_ptr(),
+            q,
+            memory.as_ptr(),
+            memory.len(),
+            line.as_mut_ptr(),
+            line.len(),
+        )
+    }
+}
+
+pub fn read_line(screen: &Settings, q: u32, memory: &[u8], line: &mut [u16]) -> u32 {
+    read_line_by(s1d_read_line, screen, q, memory, line)
 }
 
 pub fn draw(
@@ -332,7 +401,10 @@ pub fn find_glyph(site: &[u8], factory: &[u8], digit: u32) -> Glyph {
 
 /// The older chip's functions.
 pub mod older {
-    use super::{compile_by, read_point_by, s1d06_compile, s1d06_read_point, s1d06_values};
+    use super::{
+        compile_by, read_line_by, read_point_by, s1d06_compile, s1d06_read_line, s1d06_read_point,
+        s1d06_values,
+    };
     use crate::answers::{Compiled, Point, Settings, Values};
     use crate::older::REGISTERS;
 
@@ -352,5 +424,9 @@ pub mod older {
 
     pub fn read_point(screen: &Settings, p: u32, q: u32, memory: &[u8]) -> Point {
         read_point_by(s1d06_read_point, screen, p, q, memory)
+    }
+
+    pub fn read_line(screen: &Settings, q: u32, memory: &[u8], line: &mut [u16]) -> u32 {
+        read_line_by(s1d06_read_line, screen, q, memory, line)
     }
 }

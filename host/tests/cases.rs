@@ -1,4 +1,4 @@
-//! Paper 01's cases S1 to S9 and B1 to B4, cases of paper 02's requests a) and c) to h), 001's examples 1 to
+//! Paper 01's cases S1 to S9 and B1 to B4, cases of paper 02's requests a) and c) to i), 001's examples 1 to
 //! 8 and 002's examples 15 to 17, on the reference, and on the library where it is linked.
 
 use host::answers::{
@@ -2520,4 +2520,421 @@ fn patterns_in_blocks() {
             assert!(after == drawn);
         }
     }
+}
+
+// ---- Request i) of 02 ----
+
+type ReadLine = fn(&Settings, u32, &[u8], &mut [u16]) -> u32;
+
+/// A chip's functions by the reference and by the library, and the size of its memory.
+type LineChip = ([ReadLine; 2], [Read; 2], usize);
+
+const NEWER_LINES: LineChip = ([reference::read_line, unit::read_line], READ, MEMORY);
+const OLDER_LINES: LineChip =
+    ([older::read_line, unit::older::read_line], OLDER_READ, older::MEMORY);
+
+/// The colours of a panel line, or the number, by all functions of a chip, from so many bytes of a memory into
+/// a buffer of so many colours; and by points. A refusal leaves the buffer, and nothing around it changes.
+fn line_into(
+    (lines, points, _): LineChip,
+    settings: &Settings,
+    q: u32,
+    memory: &[u8],
+    room: usize,
+) -> Result<Vec<u16>, u32> {
+    let [told, others] =
+        points.map(|read| literal::line(settings.width, room, |p| read(settings, p, q, memory)));
+    assert_eq!(told, others, "{settings:?} line {q}");
+    let held: Vec<u16> = (0..room + 8).map(|i| 0xA5A5 ^ i as u16).collect();
+    for read in lines {
+        let mut colours = held.clone();
+        let number = read(settings, q, memory, &mut colours[4..4 + room]);
+        let mut want = held.clone();
+        if let Ok(line) = &told {
+            want[4..4 + room].copy_from_slice(line);
+        }
+        assert_eq!(number, told.as_ref().err().copied().unwrap_or(0), "{settings:?} line {q}");
+        assert_eq!(colours, want, "{settings:?} line {q}");
+    }
+    told
+}
+
+/// The same from the chip's memory into a buffer of the right length.
+fn line_by(chip: LineChip, settings: &Settings, q: u32, memory: &[u8]) -> Result<Vec<u16>, u32> {
+    line_into(chip, settings, q, &memory[..chip.2], settings.width as usize)
+}
+
+/// The colours of a panel line on a screen that both chips take; the sheet has the same.
+fn line_of(screen: &Screen, memory: &[u8], q: u32) -> Vec<u16> {
+    let settings = screen.settings(older_values(screen));
+    let [line, other] = [NEWER_LINES, OLDER_LINES].map(|chip| line_by(chip, &settings, q, memory));
+    assert_eq!(line, other);
+    let line = line.unwrap();
+    assert_eq!(line, sheet::line(&screen.record(), memory, q as usize));
+    line
+}
+
+/// A memory that is 0 but for some bytes.
+fn memory_of(held: &[(usize, u8)]) -> Vec<u8> {
+    let mut memory = vec![0; MEMORY];
+    held.iter().for_each(|&(at, byte)| memory[at] = byte);
+    memory
+}
+
+/// The columns that are not 0, and their colours.
+fn not_zero(line: &[u16]) -> Vec<(usize, u16)> {
+    line.iter().copied().enumerate().filter(|&(_, colour)| colour != 0).collect()
+}
+
+/// Line 2 of S1 to S4's panel, and line 3 at 90 and 270 degrees, which shows the other half of the bytes.
+#[test]
+fn lines_of_s1_to_s4() {
+    // View line 2, from left to right: bytes 320 to 479.
+    let memory = memory_of(&[(319, 0xFF), (320, 0x12), (321, 0x34), (479, 0x56), (480, 0xFF)]);
+    let line = line_of(&S1, &memory, 2);
+    assert_eq!(not_zero(&line), [(0, 1), (1, 2), (2, 3), (3, 4), (318, 5), (319, 6)]);
+    // View column 237, from the top down: byte 118 of each of 320 lines of 120, its right pixel.
+    let memory = memory_of(&[(118, 0x71), (238, 0x82), (38_398, 0x93), (117, 0xFF), (119, 0xFF)]);
+    let screen = Screen { rotation: 1, ..S1 };
+    assert_eq!(not_zero(&line_of(&screen, &memory, 2)), [(0, 1), (1, 2), (319, 3)]);
+    assert_eq!(not_zero(&line_of(&screen, &memory, 3)), [(0, 7), (1, 8), (319, 9)]);
+    // View line 237, from right to left: bytes 37,920 to 38,079.
+    let held = [(37_919, 0xFF), (37_920, 0x56), (38_078, 0x34), (38_079, 0x12), (38_080, 0xFF)];
+    let line = line_of(&Screen { rotation: 2, ..S1 }, &memory_of(&held), 2);
+    assert_eq!(not_zero(&line), [(0, 2), (1, 1), (2, 4), (3, 3), (318, 6), (319, 5)]);
+    // View column 2, from below: byte 1 of each line, its left pixel.
+    let memory = memory_of(&[(38_281, 0x17), (38_161, 0x28), (1, 0x39), (0, 0xFF), (2, 0xFF)]);
+    let screen = Screen { rotation: 3, ..S1 };
+    assert_eq!(not_zero(&line_of(&screen, &memory, 2)), [(0, 1), (1, 2), (319, 3)]);
+    assert_eq!(not_zero(&line_of(&screen, &memory, 3)), [(0, 7), (1, 8), (319, 9)]);
+}
+
+/// S9's last line is the memory's end; the older chip's memory ends with line 319.
+#[test]
+fn lines_of_s9() {
+    let mut memory = vec![0; MEMORY];
+    memory[MEMORY - 256] = 0x80;
+    memory[MEMORY - 1] = 0x1B;
+    let screen = Screen { depth: 2, panel: (1024, 1024), ..S1 };
+    let settings = screen.settings(values(&screen).try_into().unwrap());
+    let line = line_by(NEWER_LINES, &settings, 1023, &memory).unwrap();
+    assert_eq!(not_zero(&line), [(0, 2), (1021, 1), (1022, 2), (1023, 3)]);
+    assert_eq!(not_zero(&line_by(NEWER_LINES, &settings, 1022, &memory).unwrap()), []);
+    assert_eq!(line_by(NEWER_LINES, &settings, 1024, &memory), Err(24));
+    assert_eq!(line_by(OLDER_LINES, &settings, 319, &memory).map(|line| line.len()), Ok(1024));
+    assert_eq!(line_by(OLDER_LINES, &settings, 320, &memory), Err(25));
+}
+
+/// A line of each depth, there and, at 180 degrees, back.
+#[test]
+fn lines_at_each_depth() {
+    let cases: [(u8, u16, &[u8], &[u16]); 5] = [
+        (
+            1,
+            32,
+            &[0xA5, 0x0F, 0x01, 0x80],
+            &[
+                1, 0, 1, 0, 0, 1, 0, 1, 0, 0, 0, 0, 1, 1, 1, 1, 0, 0, 0, 0, 0, 0, 0, 1, 1, 0, 0, 0,
+                0, 0, 0, 0,
+            ],
+        ),
+        (2, 16, &[0x1B, 0xE4, 0x02, 0x40], &[0, 1, 2, 3, 3, 2, 1, 0, 0, 0, 0, 2, 1, 0, 0, 0]),
+        (4, 8, &[0x12, 0x34, 0x5F, 0xA0], &[1, 2, 3, 4, 5, 15, 10, 0]),
+        (8, 8, &[1, 2, 3, 0xFF, 0x80, 6, 7, 8], &[1, 2, 3, 255, 128, 6, 7, 8]),
+        (
+            16,
+            8,
+            &[1, 2, 3, 0xFF, 0x80, 6, 7, 8, 0, 0, 0xFF, 0xFF, 0, 1, 2, 0],
+            &[0x201, 0xFF03, 0x680, 0x807, 0, 0xFFFF, 0x100, 2],
+        ),
+    ];
+    for (depth, width, bytes, want) in cases {
+        let mut memory = vec![0x5A; MEMORY];
+        memory[400..400 + bytes.len()].copy_from_slice(bytes);
+        let screen = Screen { depth, panel: (width, 1), base: 400, ..S1 };
+        assert_eq!(line_of(&screen, &memory, 0), want);
+        let back: Vec<u16> = want.iter().rev().copied().collect();
+        assert_eq!(line_of(&Screen { rotation: 2, ..screen }, &memory, 0), back);
+    }
+}
+
+/// At 90 and 270 degrees: a view a dword wide and eight lines high, on lines of two dwords.
+#[test]
+fn turned_lines_at_each_depth() {
+    for depth in [1, 2, 4, 8, 16] {
+        let k = 32 / depth;
+        let memory: Vec<u8> = (0..MEMORY).map(|i| (i * 37 + i / 8) as u8).collect();
+        let number =
+            |line: usize| u32::from_be_bytes(memory[400 + 8 * line..][..4].try_into().unwrap());
+        // Pixel x from the left of a line; 16-bit pixels have their low byte first.
+        let pixel = |x: u16, line: usize| {
+            let colour = number(line) >> (32 - depth * (x + 1)) & ((1u64 << depth) - 1) as u32;
+            if depth == 16 {
+                (colour as u16).swap_bytes()
+            } else {
+                colour as u16
+            }
+        };
+        let depth = depth as u8;
+        let lengths = (2 * k, 0);
+        let screen = Screen { depth, rotation: 1, panel: (8, k), base: 400, lengths, ..S1 };
+        for q in 0..k {
+            let down: Vec<u16> = (0..8).map(|line| pixel(k - 1 - q, line)).collect();
+            assert_eq!(line_of(&screen, &memory, q.into()), down);
+            let up: Vec<u16> = (0..8).rev().map(|line| pixel(q, line)).collect();
+            assert_eq!(line_of(&Screen { rotation: 3, ..screen }, &memory, q.into()), up);
+        }
+    }
+}
+
+/// The windows of S5 to S7, and S7's at 0 degrees: main is 1, the window 2; the lines at its upper and lower
+/// edge, and the columns at its left and right edge.
+#[test]
+fn lines_across_the_window() {
+    let mut memory = vec![0xFF; MEMORY];
+    memory[..38_400].fill(0x11);
+    memory[38_400..48_000].fill(0x22);
+    let tall = (64, 80, 120, 160, 38_400);
+    let wide = (80, 60, 160, 120, 38_400);
+    for (rotation, window, first, last) in
+        [(0, wide, 60, 179), (1, tall, 56, 175), (2, wide, 60, 179), (3, tall, 64, 183)]
+    {
+        let screen = Screen { rotation, window: Some(window), ..S1 };
+        for q in [0, first - 1, first, first + 1, last - 1, last, last + 1, 239] {
+            let columns = if (first..=last).contains(&q) { 80..240 } else { 0..0 };
+            let want: Vec<u16> = (0..320).map(|p| 1 + u16::from(columns.contains(&p))).collect();
+            assert_eq!(line_of(&screen, &memory, q), want, "rotation {rotation}, line {q}");
+        }
+    }
+}
+
+/// Windows at the panel's edges, over it and past it, and none: 16 columns by 4 lines at depth 8.
+#[test]
+fn windows_on_a_line() {
+    let memory: Vec<u8> = (0..MEMORY).map(|i| i as u8).collect();
+    let lines = |settings: &Settings, q: u32| {
+        let line = line_by(NEWER_LINES, settings, q, &memory);
+        assert_eq!(line, line_by(OLDER_LINES, settings, q, &memory));
+        line.unwrap()
+    };
+    let main = [
+        [0, 1, 2, 3, 4, 5, 6, 7, 8, 9, 10, 11, 12, 13, 14, 15],
+        [3, 7, 11, 15, 19, 23, 27, 31, 35, 39, 43, 47, 51, 55, 59, 63],
+        [63, 62, 61, 60, 59, 58, 57, 56, 55, 54, 53, 52, 51, 50, 49, 48],
+        [60, 56, 52, 48, 44, 40, 36, 32, 28, 24, 20, 16, 12, 8, 4, 0],
+    ];
+    // The window's pixels from its first column on, at byte 100 and before or behind.
+    let window: [[u16; 16]; 4] = [
+        std::array::from_fn(|i| 100 + i as u16),
+        std::array::from_fn(|i| 103 + 4 * i as u16),
+        std::array::from_fn(|i| 103 - i as u16),
+        std::array::from_fn(|i| 100 - 4 * i as u16),
+    ];
+    for (rotation, start, offset, step) in
+        [(0, 0, 4, 4), (1, 0, 1, 1), (2, 15, 4, 4), (3, 15, 1, 1)]
+    {
+        // In steps: the edges, and the columns.
+        let most = 16 / step;
+        for (x_start, x_end, columns) in [
+            (1, 2, 1..3),
+            (0, 0, 0..1),
+            (0, 1, 0..2),
+            (most - 1, most - 1, most - 1..most),
+            (1, most - 1, 1..most),
+            (0, most - 2, 0..most - 1),
+            (0, most - 1, 0..most),
+            (0, 0x3FF, 0..most),
+            (2, most, 2..most),
+            (2, 0x3FF, 2..most),
+            (most, most, 0..0),
+            (most, 0x3FF, 0..0),
+            (2, 1, 0..0),
+            (0x3FF, 0, 0..0),
+        ] {
+            let values = [start, offset, 25, 1, x_start | x_end << 16, 0];
+            let settings = Settings { depth: 8, rotation, flag: 1, width: 16, height: 4, values };
+            let turn = rotation as usize;
+            let mut want = main[turn];
+            let columns = (columns.start * step) as usize..(columns.end * step) as usize;
+            want[columns.clone()].copy_from_slice(&window[turn][..columns.len()]);
+            assert_eq!(lines(&settings, 0), want, "rotation {rotation}, X {x_start} to {x_end}");
+            let without = Settings { flag: 0, ..settings };
+            assert_eq!(lines(&without, 0), main[turn]);
+            // Y 1 to 2 is below line 0, Y 2 to 1 nowhere.
+            for y in [1 | 2 << 16, 2 | 1 << 16] {
+                let mut below = settings;
+                below.values[5] = y;
+                assert_eq!(lines(&below, 0), main[turn]);
+            }
+        }
+    }
+}
+
+/// With offset 0 each column shows the same pixel at 90 and 270 degrees.
+#[test]
+fn lines_with_offset_0() {
+    let mut memory = vec![0; MEMORY];
+    memory[80..84].copy_from_slice(&[1, 2, 3, 4]);
+    for (rotation, want) in [(1, [4, 3, 2, 1]), (3, [1, 2, 3, 4])] {
+        let values = [20, 0, 0, 0, 0, 0];
+        let settings = Settings { depth: 8, rotation, flag: 0, width: 8, height: 4, values };
+        for (q, colour) in (0..).zip(want) {
+            for chip in [NEWER_LINES, OLDER_LINES] {
+                assert_eq!(line_by(chip, &settings, q, &memory), Ok(vec![colour; 8]));
+            }
+        }
+    }
+}
+
+/// Everything is wrong, and put right one thing after the other.
+#[test]
+fn order_of_a_lines_checks() {
+    let bytes = vec![0xFF; MEMORY + 1];
+    for chip in [NEWER_LINES, OLDER_LINES] {
+        let (_, _, size) = chip;
+        let mut settings = Settings {
+            depth: 3,
+            rotation: 4,
+            flag: 2,
+            width: 12,
+            height: 12,
+            values: [0, 0x400, 0, 0, 0, 0],
+        };
+        let (mut memory, mut q, mut room) = (&bytes[..size + 1], 16, 15);
+        for number in [18, 1, 2, 3, 4, 5, 21, 24, 25, 17] {
+            assert_eq!(line_into(chip, &settings, q, memory, room), Err(number));
+            match number {
+                18 => memory = &bytes[..size],
+                1 => settings.flag = 1,
+                2 => settings.depth = 4,
+                3 => settings.rotation = 1,
+                4 => settings.width = 16,
+                5 => settings.height = 16,
+                21 => settings.values[1] = 0x3FF,
+                24 => q = 12,
+                25 => settings.values[0] = 1,
+                _ => room = 16,
+            }
+        }
+        assert_eq!(line_into(chip, &settings, q, memory, room), Ok(vec![15; 16]));
+    }
+}
+
+/// A panel of width 0 has the refusals of column 0; one that is too wide is 4 too.
+#[test]
+fn lines_of_no_column() {
+    let memory = vec![0; MEMORY + 1];
+    let s1 = S1.settings([0, 0x28, 0, 0, 0, 0]);
+    for chip in [NEWER_LINES, OLDER_LINES] {
+        for width in [0, 1, 7, 9, 1023, 1025, 1032, 0x8000_0008, u32::MAX - 7, u32::MAX] {
+            let settings = Settings { width, ..s1 };
+            let right = width.min(5000) as usize;
+            for room in [0, 1, 8, right, 1024] {
+                let number = |settings: Settings, size: usize| {
+                    line_into(chip, &settings, 240, &memory[..size], room).unwrap_err()
+                };
+                assert_eq!(number(settings, chip.2), 4);
+                assert_eq!(number(Settings { rotation: 4, ..settings }, chip.2), 3);
+                assert_eq!(number(Settings { depth: 0, ..settings }, chip.2), 2);
+                assert_eq!(number(Settings { flag: 2, ..settings }, chip.2), 1);
+                assert_eq!(number(settings, chip.2 + 1), 18);
+                assert_eq!(number(settings, chip.2 - 1), 18);
+            }
+        }
+    }
+}
+
+/// Buffers of another length, and the last line and those below it.
+#[test]
+fn rooms_of_a_line() {
+    let memory = vec![0x77; MEMORY];
+    let s1 = S1.settings([0, 0x28, 0, 0, 0, 0]);
+    for chip in [NEWER_LINES, OLDER_LINES] {
+        let memory = &memory[..chip.2];
+        for q in [0, 239] {
+            assert_eq!(line_into(chip, &s1, q, memory, 320), Ok(vec![7; 320]));
+            for room in [0, 1, 8, 160, 312, 319, 321, 328, 640, 1024] {
+                assert_eq!(line_into(chip, &s1, q, memory, room), Err(17));
+            }
+        }
+        for q in [240, 241, 256, 65_536, u32::MAX] {
+            for room in [0, 319, 320, 321] {
+                assert_eq!(line_into(chip, &s1, q, memory, room), Err(24));
+            }
+        }
+    }
+}
+
+/// Lines that leave the memory in a part alone, by a dword, and lines that just stay in it: panels of 16 columns
+/// at depth 8, the window being columns 4 to 11.
+#[test]
+fn lines_out_of_memory() {
+    let memory = vec![9; MEMORY];
+    for chip in [NEWER_LINES, OLDER_LINES] {
+        let last = chip.2 as u32 / 4 - 1;
+        // Rotation, line, start and offset of main and of the window; those that stay, then that do not.
+        let both = |rotation: u32, q: u32, inside: [u32; 4], outside: [u32; 4]| {
+            let (x, y) = match rotation % 2 {
+                0 => (1 | 2 << 16, 7 << 16),
+                _ => (4 | 11 << 16, 1 << 16),
+            };
+            for (values, number) in [(inside, 0), (outside, 25)] {
+                let [a, b, c, d] = values;
+                let values = [a, b, c, d, x, y];
+                let settings =
+                    Settings { depth: 8, rotation, flag: 1, width: 16, height: 8, values };
+                let line = line_by(chip, &settings, q, &memory);
+                assert_eq!(line, if number == 0 { Ok(vec![9; 16]) } else { Err(number) });
+                for room in [0, 15, 17] {
+                    let number = if number == 0 { 17 } else { number };
+                    let line = line_into(chip, &settings, q, &memory[..chip.2], room);
+                    assert_eq!(line, Err(number));
+                }
+            }
+        };
+        // The last dword alone, right of the window; on line 1, too.
+        both(0, 0, [last - 3, 0, 0, 0], [last - 2, 0, 0, 0]);
+        both(0, 1, [last - 4, 1, 0, 0], [last - 4, 2, 0, 0]);
+        // The window alone, its last dword and both.
+        both(0, 0, [0, 0, last - 1, 0], [0, 0, last, 0]);
+        both(0, 1, [0, 0, last - 2, 1], [0, 0, last - 2, 3]);
+        both(2, 0, [3, 0, 9, 0], [2, 0, 9, 0]);
+        both(2, 1, [4, 1, 9, 0], [4, 2, 9, 0]);
+        both(2, 0, [9, 0, 1, 0], [9, 0, 0, 0]);
+        // The first column alone, line 4 being a dword back; and the last alone.
+        both(1, 4, [1, 1, 9, 0], [0, 1, 9, 0]);
+        both(1, 0, [last - 15, 1, 0, 0], [last - 14, 1, 0, 0]);
+        both(1, 0, [last - 30, 2, 0, 0], [last - 29, 2, 0, 0]);
+        both(3, 4, [last - 1, 1, 0, 0], [last, 1, 0, 0]);
+        both(3, 0, [15, 1, 0, 0], [14, 1, 0, 0]);
+        // The window's first column alone, and its last.
+        both(1, 4, [9, 0, 1, 1], [9, 0, 0, 1]);
+        both(1, 0, [9, 0, last - 7, 1], [9, 0, last - 6, 1]);
+        both(3, 4, [9, 0, last - 1, 1], [9, 0, last, 1]);
+        both(3, 0, [9, 0, 7, 1], [9, 0, 6, 1]);
+        // Main is not looked at where the window is shown.
+        let x = 1 | 3 << 16;
+        let values = [last, 0, 0, 0, x, 0];
+        let settings = Settings { depth: 8, rotation: 0, flag: 1, width: 16, height: 1, values };
+        assert_eq!(line_by(chip, &settings, 0, &memory), Ok(vec![9; 16]));
+        // Nor is the window past the panel, or where the flag is 0.
+        let values = [0, 0, last - 1, 0, 2 | 0x3FF << 16, 0];
+        let settings = Settings { values, ..settings };
+        assert_eq!(line_by(chip, &settings, 0, &memory), Ok(vec![9; 16]));
+        let values = [0, 0, last, 0, 2 | 0x3FF << 16, 0];
+        let settings = Settings { values, ..settings };
+        assert_eq!(line_by(chip, &settings, 0, &memory), Err(25));
+        let settings = Settings { flag: 0, ..settings };
+        assert_eq!(line_by(chip, &settings, 0, &memory), Ok(vec![9; 16]));
+    }
+    // On the older chip a start may be past the memory: main left of the window alone, and the first dword of
+    // the window alone at 180 degrees.
+    let values = [20_480, 0, 0, 0, 1 | 3 << 16, 0];
+    let settings = Settings { depth: 8, rotation: 0, flag: 1, width: 16, height: 1, values };
+    assert_eq!(line_by(OLDER_LINES, &settings, 0, &memory), Err(25));
+    assert_eq!(line_by(NEWER_LINES, &settings, 0, &memory), Ok(vec![9; 16]));
+    let values = [9, 0, 20_480, 0, 1 | 2 << 16, 0];
+    let settings = Settings { rotation: 2, values, ..settings };
+    assert_eq!(line_by(OLDER_LINES, &settings, 0, &memory), Err(25));
+    assert_eq!(line_by(NEWER_LINES, &settings, 0, &memory), Ok(vec![9; 16]));
 }

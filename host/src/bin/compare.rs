@@ -2,17 +2,18 @@
 //! and with pixel-by-pixel playing; the player that is fed in blocks also with the one that is not,
 //! the older chip's bytes with the other chip's values, and a point's colour with the bits of memory
 //! where it is said to stand; lists in either form with what short ones compile to and, for operations 3 to
-//! 5, with the bytes that they share; turned lists with their records, and compiled and drawn in both forms; rings and strips with what the accepted samples
-//! say, drawn strips with their picture, and the library's rings of any numbers with what they tell
-//! themselves.
+//! 5, with the bytes that they share; turned lists with their records, and compiled and drawn in both forms;
+//! panel lines with their points, and of compiled screens with the sheet; rings and strips with what the
+//! accepted samples say, drawn strips with their picture, and the library's rings of any numbers with what they
+//! tell themselves.
 //!
 //!     compare [--reference-only] [COUNT [SEED [FIRST]]]
 //!
 //! Inputs are numbered from FIRST (0); each is made from the seed and its number alone, so
 //! `compare 1 SEED NUMBER` repeats one. Ends with status 1 on a difference, or where a refusal
 //! number was never seen, or not by `feed`, `end`, turning, the older chip's functions and those of the
-//! wear strip where they give it, or not in each form of a list by compiling and drawing; or where something
-//! of `Seen`, on either chip, of `Formed`, of `Hatched` or of `Worn` was not.
+//! wear strip and panel lines where they give it, or not in each form of a list by compiling and drawing; or
+//! where something of `Seen` or `Lines`, on either chip, of `Formed`, of `Hatched` or of `Worn` was not.
 
 use std::fmt::{Debug, Write};
 use std::ops::Range;
@@ -28,7 +29,7 @@ use host::serial::{self, BLOCK};
 use host::wear::{self, HOURS};
 use host::{forms, literal, older, records, reference, sheet, unit, LINKED};
 
-const FUNCTIONS: [&str; 14] = [
+const FUNCTIONS: [&str; 16] = [
     "compile",
     "play",
     "point",
@@ -43,6 +44,8 @@ const FUNCTIONS: [&str; 14] = [
     "glyph",
     "to long",
     "to short",
+    "line",
+    "line06",
 ];
 const COMPILE: usize = 0;
 const PLAY: usize = 1;
@@ -58,13 +61,15 @@ const STRIP: usize = 10;
 const GLYPH: usize = 11;
 const TO_LONG: usize = 12;
 const TO_SHORT: usize = 13;
+const LINE: usize = 14;
+const OLDER_LINE: usize = 15;
 
 /// The highest number of a refusal, and those that there are not.
 const HIGHEST: usize = 32;
 const FREE: Range<usize> = 30..32;
 
 /// What some functions must have given; `feed` and `end`, repeated answers among it.
-const GIVEN: [(usize, &[usize]); 9] = [
+const GIVEN: [(usize, &[usize]); 11] = [
     (FEED, &[0, 18, 19, 20, 21, 22, 23, 32]),
     (END, &[0, 19, 20, 21, 22, 23]),
     (OLDER_POINT, &[0, 1, 2, 3, 4, 5, 18, 21, 24, 25]),
@@ -74,6 +79,8 @@ const GIVEN: [(usize, &[usize]); 9] = [
     (GLYPH, &[0, 27]),
     (TO_LONG, &[0, 10, 17]),
     (TO_SHORT, &[0, 10, 17, 28]),
+    (LINE, &[0, 1, 2, 3, 4, 5, 17, 18, 21, 24, 25]),
+    (OLDER_LINE, &[0, 1, 2, 3, 4, 5, 17, 18, 21, 24, 25]),
 ];
 
 /// The number that the long form alone has.
@@ -97,6 +104,7 @@ fn form_index(form: u32) -> usize {
 
 type Compile = fn(u32, &[u8], &[u8], &[u16], &mut [u8]) -> Compiled;
 type Read = fn(&Settings, u32, u32, &[u8]) -> Point;
+type ReadLine = fn(&Settings, u32, &[u8], &mut [u16]) -> u32;
 
 /// A chip: the size of its memory, and its functions by the reference and by the library.
 struct Chip {
@@ -104,9 +112,11 @@ struct Chip {
     memory: usize,
     compile: [Compile; 2],
     read_point: [Read; 2],
+    read_line: [ReadLine; 2],
     /// Where their numbers are counted, and the rest.
     compiled: usize,
     read: usize,
+    lined: usize,
     index: usize,
 }
 
@@ -115,8 +125,10 @@ const NEWER: Chip = Chip {
     memory: MEMORY,
     compile: [reference::compile, unit::compile],
     read_point: [reference::read_point, unit::read_point],
+    read_line: [reference::read_line, unit::read_line],
     compiled: COMPILE,
     read: POINT,
+    lined: LINE,
     index: 0,
 };
 const OLDER: Chip = Chip {
@@ -124,8 +136,10 @@ const OLDER: Chip = Chip {
     memory: older::MEMORY,
     compile: [older::compile, unit::older::compile],
     read_point: [older::read_point, unit::older::read_point],
+    read_line: [older::read_line, unit::older::read_line],
     compiled: OLDER_COMPILE,
     read: OLDER_POINT,
+    lined: OLDER_LINE,
     index: 1,
 };
 
@@ -199,6 +213,241 @@ impl Places {
             self.bits[i].iter().rev().step_by(step).copied().collect()
         })
     }
+}
+
+/// Where the window is on a panel line that is accepted, by `place_of`; of a compiled screen the first
+/// `COMPILED_PLACES` alone.
+const PLACES: [&str; 12] = [
+    "without the window",
+    "above it",
+    "below it",
+    "window at the left edge",
+    "in the middle",
+    "at the right edge",
+    "over the whole line",
+    "window's first line",
+    "its last line",
+    "start past end",
+    "start past the panel",
+    "end past the panel",
+];
+const COMPILED_PLACES: usize = 9;
+
+/// Which columns of a line alone are refused with 25, by `outside_of`. First and last are, at 0 and 180
+/// degrees, a dword's.
+const OUTSIDE: [&str; 7] = [
+    "the first",
+    "the last",
+    "neither first nor last",
+    "left of the window",
+    "in the window, main on both sides",
+    "right of the window",
+    "all",
+];
+
+/// What a line may be refused with before its buffer's length is asked for.
+const BEFORE_17: [u32; 9] = [18, 1, 2, 3, 4, 5, 21, 24, 25];
+
+/// What else must be seen of a chip's panel lines.
+#[derive(Default)]
+struct Lines {
+    /// Accepted, of compiled screens and of any values: by rotation and depth; and by rotation and in the order
+    /// of `PLACES`.
+    depths: [[[u64; DEPTHS.len()]; 4]; 2],
+    places: [[[u64; PLACES.len()]; 4]; 2],
+    /// 25 by rotation, in the order of `OUTSIDE`; and, at 90 and 270 degrees, for the first and for the last
+    /// column of a window alone that has more of them, and main on both sides.
+    outside: [[u64; OUTSIDE.len()]; 4],
+    ends: [[u64; 2]; 2],
+    /// 17 for a buffer one short, shorter, empty, one too long, longer.
+    rooms: [u64; 5],
+    /// Each number before 17, with a buffer of another length too.
+    before_17: [u64; BEFORE_17.len()],
+    /// 4 for no column, with an empty buffer, and for the most; 24 for the line below the panel, and for the
+    /// last number. With no column: 18, 1, 2, 3.
+    limits: [u64; 4],
+    no_column: [u64; 4],
+    /// Accepted: of 8 columns, of 1,024; main with offset 0 at 90 and 270 degrees.
+    widths: [u64; 2],
+    still: [u64; 2],
+}
+
+impl Lines {
+    /// The counts with their names.
+    fn rows(&self) -> Vec<(String, Vec<u64>)> {
+        let of = ["compiled screens", "any values"];
+        let mut rows = Vec::new();
+        for (of, counts) in of.iter().zip(&self.depths) {
+            rows.push((format!("of {of}, by rotation and depth"), counts.concat()));
+        }
+        for (i, of) in of.into_iter().enumerate() {
+            for (place, what) in PLACES.iter().enumerate() {
+                if i == 1 || place < COMPILED_PLACES {
+                    let counts = self.places[i].iter().map(|counts| counts[place]);
+                    rows.push((format!("of {of}, by rotation: {what}"), counts.collect()));
+                }
+            }
+        }
+        for (i, what) in OUTSIDE.iter().enumerate() {
+            let counts = self.outside.iter().map(|counts| counts[i]);
+            rows.push((format!("25 by rotation: {what}"), counts.collect()));
+        }
+        let mut row = |what: &str, counts: &[u64]| rows.push((what.into(), counts.to_vec()));
+        row("25 at 90, 270 degrees: a window's first column, its last", &self.ends.concat());
+        row("17 for one short, shorter, none, one too long, longer", &self.rooms);
+        row("before 17: 18, 1 to 5, 21, 24, 25", &self.before_17);
+        row("4 for width 0, 2^32 - 1; 24 for the height, 2^32 - 1", &self.limits);
+        row("18, 1, 2, 3 for width 0", &self.no_column);
+        row("of 8, 1,024 columns", &self.widths);
+        row("with offset 0 at 90, 270 degrees", &self.still);
+        rows
+    }
+
+    /// Counts an accepted line of a compiled screen (0) or of any values (1).
+    fn count(&mut self, of: usize, settings: &Settings, q: u32) {
+        let rotation = settings.rotation as usize;
+        self.depths[of][rotation][settings.depth.trailing_zeros() as usize] += 1;
+        for (count, there) in self.places[of][rotation].iter_mut().zip(place_of(settings, q)) {
+            *count += u64::from(there);
+        }
+        for (count, width) in self.widths.iter_mut().zip([8, 1024]) {
+            *count += u64::from(settings.width == width);
+        }
+        if rotation % 2 == 1 {
+            self.still[rotation / 2] += u64::from(settings.values[1] == 0);
+        }
+    }
+
+    /// Counts a line that is refused with a number; for 25, the columns where it is.
+    fn count_refused(
+        &mut self,
+        settings: &Settings,
+        q: u32,
+        room: usize,
+        number: u32,
+        refused: &[bool],
+    ) {
+        let &Settings { rotation, width, height, .. } = settings;
+        let columns = width as usize;
+        if let Some(i) = BEFORE_17.iter().position(|&before| before == number) {
+            self.before_17[i] += u64::from(room != columns);
+            if let Some(count) = self.no_column.get_mut(i) {
+                *count += u64::from(width == 0);
+            }
+        }
+        let [none, most, below, last] = &mut self.limits;
+        match number {
+            4 => {
+                *none += u64::from(width == 0 && room == 0);
+                *most += u64::from(width == u32::MAX);
+            }
+            17 => {
+                let [one, shorter, empty, more, longer] = &mut self.rooms;
+                *one += u64::from(room + 1 == columns);
+                *shorter += u64::from(room + 1 < columns);
+                *empty += u64::from(room == 0);
+                *more += u64::from(room == columns + 1);
+                *longer += u64::from(room > columns + 1);
+            }
+            24 => {
+                *below += u64::from(q == height);
+                *last += u64::from(q == u32::MAX);
+            }
+            25 => {
+                let places = outside_of(settings, q, refused);
+                let counts = &mut self.outside[rotation as usize];
+                for (count, there) in counts.iter_mut().zip(places) {
+                    *count += u64::from(there);
+                }
+                let shown = in_window(settings, q);
+                let (first, last) = (shown.iter().position(|&in_it| in_it), last_of(&shown));
+                if let (1, true, Some(first)) = (rotation % 2, places[4], first) {
+                    let alone = |at: usize| first < last && refused[at] && count_of(refused) == 1;
+                    let [at_first, at_last] = &mut self.ends[rotation as usize / 2];
+                    *at_first += u64::from(alone(first));
+                    *at_last += u64::from(alone(last));
+                }
+            }
+            _ => {}
+        }
+    }
+}
+
+/// How many of them are.
+fn count_of(of: &[bool]) -> usize {
+    of.iter().filter(|&&is| is).count()
+}
+
+/// The last of them that is; 0 where none is.
+fn last_of(of: &[bool]) -> usize {
+    of.iter().rposition(|&is| is).unwrap_or(0)
+}
+
+/// The window's X start and end, its Y start and end, and how many columns and lines a step of them is.
+fn edges(settings: &Settings) -> ([u32; 4], (u32, u32)) {
+    let (x, y) = (settings.values[4], settings.values[5]);
+    let k = 32 / settings.depth;
+    let steps = match settings.rotation {
+        0 | 2 => (k, 1),
+        _ => (1, k),
+    };
+    ([x % 65_536, x / 65_536, y % 65_536, y / 65_536], steps)
+}
+
+/// For each column of a panel line, whether it shows the window.
+fn in_window(settings: &Settings, q: u32) -> Vec<bool> {
+    let ([x_start, x_end, y_start, y_end], (across, down)) = edges(settings);
+    let in_it = |p: u32| {
+        let (x, y) = (p / across, q / down);
+        settings.flag == 1 && x_start <= x && x <= x_end && y_start <= y && y <= y_end
+    };
+    (0..settings.width).map(in_it).collect()
+}
+
+/// Which of `PLACES` the window has on a panel line.
+fn place_of(settings: &Settings, q: u32) -> [bool; PLACES.len()] {
+    let ([x_start, x_end, y_start, y_end], (across, down)) = edges(settings);
+    let &Settings { flag, width, .. } = settings;
+    let shown = in_window(settings, q);
+    let (first, last, count) = (shown[0], shown[shown.len() - 1], count_of(&shown));
+    let some = count > 0;
+    let on_panel = flag == 1 && x_start <= x_end && y_start <= y_end && x_start * across < width;
+    let beside = flag == 1 && y_start <= q / down && q / down <= y_end;
+    [
+        flag == 0,
+        on_panel && q / down < y_start,
+        on_panel && q / down > y_end,
+        first && !last,
+        some && !first && !last,
+        last && !first,
+        count == shown.len(),
+        some && q == y_start * down,
+        some && q == y_end * down + down - 1,
+        beside && x_start > x_end,
+        beside && x_start <= x_end && x_start * across >= width,
+        some && x_end * across >= width,
+    ]
+}
+
+/// Which of `OUTSIDE` the refused columns of a panel line are.
+fn outside_of(settings: &Settings, q: u32, refused: &[bool]) -> [bool; OUTSIDE.len()] {
+    let (_, (across, _)) = edges(settings);
+    let shown = in_window(settings, q);
+    let (unit, width) = (across as usize, refused.len());
+    let (first, last, count) = (refused[0], refused[width - 1], count_of(refused));
+    let all = |alone: &dyn Fn(usize) -> bool| (0..width).all(|p| !refused[p] || alone(p));
+    let (left, right) = (shown.iter().position(|&in_it| in_it), last_of(&shown));
+    let some = left.is_some();
+    let left = left.unwrap_or(0);
+    [
+        count == unit && unit < width && all(&|p| p < unit),
+        count == unit && unit < width && all(&|p| p >= width - unit),
+        !first && !last,
+        some && all(&|p| p < left),
+        some && !shown[0] && !shown[width - 1] && all(&|p| shown[p]),
+        some && all(&|p| p > right),
+        count == width,
+    ]
 }
 
 /// What else must be seen of forms and turned lists.
@@ -446,6 +695,9 @@ struct Rings {
 /// The list and the words of a strip, or its number.
 type Made = Result<(Vec<u8>, Vec<u16>), u32>;
 
+/// The colours of a panel line, or the number of its refusal.
+type Line = Result<Vec<u16>, u32>;
+
 /// A list in its other form, or the number of its refusal.
 type Turned = Result<Vec<u8>, u32>;
 
@@ -464,8 +716,9 @@ struct Bench {
     seen: [[u64; HIGHEST + 1]; FUNCTIONS.len()],
     /// How often those of `LISTED` did, by the list's form: 32, 48, any other number.
     by_form: [[[u64; HIGHEST + 1]; 3]; LISTED.len()],
-    /// How often the rest was seen of each chip.
+    /// How often the rest was seen of each chip, and of its panel lines.
     chips: [Seen; 2],
+    lines: [Lines; 2],
     /// And of forms, of patterns and transparent moves, and of rings and strips.
     formed: Formed,
     hatched: Hatched,
@@ -635,6 +888,7 @@ impl Bench {
             seen: [[0; HIGHEST + 1]; FUNCTIONS.len()],
             by_form: [[[0; HIGHEST + 1]; 3]; LISTED.len()],
             chips: Default::default(),
+            lines: Default::default(),
             formed: Formed::default(),
             hatched: Hatched::default(),
             worn: Worn::default(),
@@ -984,6 +1238,104 @@ impl Bench {
             }
             for _ in 0..200 {
                 read(rng.below(width.into()) as u32, rng.below(height.into()) as u32)?;
+            }
+        }
+        self.lines_against_sheet(rng, chip, drawing, &settings)
+    }
+
+    /// Some of the panel's lines against the sheet: the first, the last, those at the window's edges, others.
+    fn lines_against_sheet(
+        &mut self,
+        rng: &mut Rng,
+        chip: &Chip,
+        drawing: &Drawing,
+        settings: &Settings,
+    ) -> Checked {
+        let screen = &drawing.screen;
+        let height = settings.height as usize;
+        let mut any = || rng.below(height as u64) as usize;
+        let mut lines = vec![0, height - 1, any(), any()];
+        if settings.flag == 1 {
+            let number = |at: usize| usize::from(u16::from_le_bytes([screen[at], screen[at + 1]]));
+            let (x, y, width, lines_of) = (number(16), number(18), number(20), number(22));
+            let corners = [(x, y), (x + width - 1, y + lines_of - 1)];
+            let [a, b] = corners.map(|(u, v)| sheet::panel_point(screen, u, v).1);
+            let (first, last) = (a.min(b), a.max(b));
+            lines.extend([first.saturating_sub(1), first, last, (last + 1).min(height - 1)]);
+        }
+        for q in lines {
+            let room = inputs::line_room(rng, settings.width as usize);
+            let input = || {
+                let name = chip.name;
+                format!("  {name} {settings:?} line {q}, {room} colours\n{}", drawing_text(drawing))
+            };
+            let line = self.read_line(chip, settings, q as u32, room, input)?;
+            let shown = sheet::line(screen, &self.third, q);
+            let want = if room == shown.len() { Ok(shown) } else { Err(17) };
+            same("the sheet's line", &line, &want, input)?;
+            if line.is_ok() {
+                self.lines[chip.index].count(0, settings, q as u32);
+            }
+        }
+        Ok(())
+    }
+
+    /// One panel line, read by both from the memory into a buffer of so many colours, against its points: the
+    /// answer, and every colour there and around it.
+    fn read_line(
+        &mut self,
+        chip: &Chip,
+        settings: &Settings,
+        q: u32,
+        room: usize,
+        input: impl Fn() -> String,
+    ) -> Result<Line, String> {
+        const AROUND: usize = 8;
+        let memory = &self.memory[0];
+        let by_points =
+            |read: Read| literal::line(settings.width, room, |p| read(settings, p, q, memory));
+        let [line, others] = chip.read_point.map(by_points);
+        same("points of a line", &line, &others, &input)?;
+        let number = line.as_ref().map_or_else(|&number| number, |_| 0);
+        let held: Vec<u16> = (0..room + 2 * AROUND).map(|i| 0xA5A5 ^ i as u16).collect();
+        let mut want = held.clone();
+        if let Ok(colours) = &line {
+            want[AROUND..AROUND + room].copy_from_slice(colours);
+        }
+        for (side, read) in ["reference", "library"].into_iter().zip(chip.read_line) {
+            let mut colours = held.clone();
+            let answer = read(settings, q, memory, &mut colours[AROUND..AROUND + room]);
+            same(&format!("line of the {side}, as its points say"), number, answer, &input)?;
+            let differs = want.iter().zip(&colours).position(|(a, b)| a != b);
+            let differs = differs.map(|at| (at as i64 - AROUND as i64, want[at], colours[at]));
+            let what =
+                format!("line of the {side}: first column that differs, as points say, and is");
+            same(&what, None, differs, &input)?;
+        }
+        self.seen[chip.lined][number as usize] += 1;
+        if number != 0 {
+            let refused = |p: u32| chip.read_point[0](settings, p, q, memory).number != 0;
+            let columns = if number == 25 { settings.width } else { 0 };
+            let refused: Vec<bool> = (0..columns).map(refused).collect();
+            self.lines[chip.index].count_refused(settings, q, room, number, &refused);
+        }
+        Ok(line)
+    }
+
+    /// A few panel lines of settings that no compiling made.
+    fn lines(&mut self, rng: &mut Rng, chip: &Chip) -> Checked {
+        let length = memory_length(rng, chip);
+        let at = self.prepare_memory(rng, length);
+        for _ in 0..16 {
+            let (settings, q, room) = inputs::line(rng, chip.memory as u64);
+            let line = self.read_line(chip, &settings, q, room, || {
+                format!(
+                    "  {} {settings:?} line {q}, {room} colours\n  memory: {length} bytes, pool from {at}",
+                    chip.name
+                )
+            })?;
+            if line.is_ok() {
+                self.lines[chip.index].count(1, &settings, q);
             }
         }
         Ok(())
@@ -1666,7 +2018,7 @@ impl Bench {
     }
 
     fn input(&mut self, rng: &mut Rng) -> Checked {
-        match rng.below(32) {
+        match rng.below(34) {
             0..=4 => self.compile(rng),
             5..=7 => self.draw(rng),
             8..=10 => self.stream(rng),
@@ -1680,6 +2032,8 @@ impl Bench {
             25 => self.glyphs(rng),
             26 => self.any_ring(rng),
             27..=29 => self.turn(rng),
+            30 => self.lines(rng, &NEWER),
+            31 => self.lines(rng, &OLDER),
             _ => self.both_forms(rng),
         }
     }
@@ -1765,6 +2119,13 @@ fn main() -> ExitCode {
             println!("  points of {of} by depth, and by place from 7 down {bits:?}");
             println!("    at depth 8 in a byte of odd address {odd}");
             missed |= odd == 0 || bits.iter().any(|bits| bits.contains(&0));
+        }
+    }
+    for (chip, lines) in [NEWER, OLDER].iter().zip(&bench.lines) {
+        println!("Panel lines of the {}:", chip.name);
+        for (what, counts) in lines.rows() {
+            println!("  {what} {counts:?}");
+            missed |= counts.contains(&0);
         }
     }
     println!("Forms of a list:");

@@ -298,6 +298,33 @@ impl Timing {
         row(what, Of::Points, (width * height) as usize, None, ours, theirs);
     }
 
+    /// Reads each line of a panel by a call, 16 lines at a time.
+    fn lines(&mut self, what: &str, settings: &Settings) {
+        type Read = fn(&Settings, u32, &[u8], &mut [u16]) -> u32;
+        let memory = self.memory();
+        let (width, height) = (settings.width, settings.height);
+        let mut lines = [vec![0; 16 * width as usize], vec![1; 16 * width as usize]];
+        let band = |read: Read, first: u32, lines: &mut [u16]| {
+            for (q, line) in (first..).zip(lines.chunks_exact_mut(width as usize)) {
+                assert_eq!(read(settings, q, &memory, line), 0);
+            }
+        };
+        let (mut ours, mut theirs) = (0.0, 0.0);
+        for first in (0..height).step_by(16) {
+            let [line, other] = &mut lines;
+            let times = best(
+                self.rounds / 4 + 1,
+                &mut [&mut || band(reference::read_line, first, black_box(line)), &mut || {
+                    band(unit::read_line, first, black_box(other))
+                }],
+            );
+            assert_eq!(line, other);
+            ours += times[0];
+            theirs += times[1];
+        }
+        row(what, Of::Points, (width * height) as usize, None, ours, theirs);
+    }
+
     /// Takes samples, so many steps apart, by a call each.
     fn samples(&mut self, what: &str, steps: u16) {
         let (mut ring, mut other) = (wear::new_ring(), unit::new_ring());
@@ -507,6 +534,15 @@ fn main() {
         ..settings
     };
     timing.panel("read 1,024 × 1,024 points, 90 degrees, window", &turned);
+    timing.lines("read 1,024 lines of 1,024 points", &settings);
+    timing.lines("read 1,024 lines of 1,024 points, 90 degrees, window", &turned);
+    let back = Settings { rotation: 2, values: [65_535, 64, 0, 0, 0, 0], ..settings };
+    timing.lines("read 1,024 lines of 1,024 points, 180 degrees", &back);
+    for (depth, width) in [(8, 512), (16, 256)] {
+        let values = [0, 128, 0, 0, 0, 0];
+        let settings = Settings { depth, width, height: 512, values, ..settings };
+        timing.lines(&format!("read 512 lines of {width} points, depth {depth}"), &settings);
+    }
 
     timing.samples("take a sample, one step", 1);
     timing.samples("take a sample, 512 steps", 512);
