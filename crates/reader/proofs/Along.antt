@@ -133,10 +133,13 @@ module _ (d : Display) (v : ScreenValues) (q a n : ℕ) (walk : Walkable d v) (o
         tabulate-below n _ _
         (λ j h. rw (byte-is j h, bit-is-there j h) (sym (stored-pixel (d .depth) memory (at j .up - at j .down) (at j .pixel))))
 
+    ordered : (j : ℕ) → j < n → behindAfter s j ≤ aheadAfter s j
+    ordered j h = says m (behindAfter s j) (aheadAfter s j) (step-inside m j h ∙ inside-each m d v q a n all j h) .0
+
     -- all of them can be read
     pub fillable : 0 < n → n ≤ 4294967296 → Near s → Fillable (d .depth) m s n
     fillable some few near =
-        record { deep = walk .depth; near = near; start = first (s .back) _ _ _ (says m _ _ (step-inside m 0 some ∙ inside-each m d v q a n all 0 some) .0); count = few; each = step-room }
+        record { deep = walk .depth; near = near; start = first (s .back) _ _ _ (ordered 0 some); count = few; order = ordered; each = step-room }
       where
         first : (t : Bool) (b x y : ℕ) → cond t (b + 0 * x) b ≤ cond t y (y + 0 * x) → b ≤ y
         first true b x y h = omega arith

@@ -1,10 +1,10 @@
 -- Reading along a panel line, for inner contracts alone: points of neighbouring columns, by what the chip looks at and by steps. No promise of an entry
 -- point cites it.
-use Prim.Native.Nat.{ℕ, zero, suc, _+_, _-_, _/_, _%_, _≤_, _<_, min, max}
+use Prim.Native.Nat.{ℕ, zero, suc, _+_, _-_, _*_, _/_, _%_, _≤_, _<_, min, max}
 use mathlib.Core.Path.{_≡_}
 use mathlib.Core.List.{List}
-use mathlib.Core.Bool.{Bool, true, _&&_}
-use lib.Dec.{leb, ltb}
+use mathlib.Core.Bool.{Bool, true, _&&_, cond}
+use lib.Dec.{leb, ltb, eqb}
 use Rattle.record.specs.Lists.{tabulate}
 use Rattle.pixel.specs.Depth.{isDepth}
 use Rattle.pixel.specs.Pixel.{storedPixel}
@@ -59,4 +59,38 @@ pub record Fillable (depth m : ℕ) (s : Steps) (n : ℕ) : Type 0 where
   pub near : Near s
   pub start : s .behind ≤ s .ahead
   pub count : n ≤ 4294967296
+  pub order : (j : ℕ) → j < n → behindAfter s j ≤ aheadAfter s j
   pub each : (j : ℕ) → j < n → Readable depth m (bitsAfter s j)
+
+-- ---- pixels side by side, as at 0 and 180 degrees, in cells of whole bytes
+-- the pixels of a cell, a byte's and at depth 16 one; and its bytes
+abbrev pub cellPixels : ℕ → ℕ
+cellPixels depth = max 1 (8 / depth)
+
+abbrev pub cellBytes : ℕ → ℕ
+cellBytes depth = max 1 (depth / 8)
+
+-- the address of the i-th cell from address a on, or back
+abbrev pub cellAt : ℕ → Bool → ℕ → ℕ → ℕ
+cellAt depth back a i = cond back (a - i * cellBytes depth) (a + i * cellBytes depth)
+
+-- the t-th colour of the cell at address a: from its left, or back from its right
+unfoldable pub cellColour : ℕ → List ℕ → Bool → ℕ → ℕ → ℕ
+cellColour depth memory back a t = storedPixel depth memory a (7 - depth * cond back (cellPixels depth - 1 - t) t)
+
+-- the j-th colour of cells side by side
+abbrev pub cellsColour : ℕ → List ℕ → Bool → ℕ → ℕ → ℕ
+cellsColour depth memory back a j = cellColour depth memory back (cellAt depth back a (j / cellPixels depth)) (j % cellPixels depth)
+
+-- n pixels in whole cells, from the cell at address a on or back, lie in a memory of m bytes
+pub record Celled (depth m : ℕ) (back : Bool) (a n : ℕ) : Type 0 where
+  pub deep : isDepth depth ≡ true
+  pub whole : n % cellPixels depth ≡ 0
+  pub far : (i : ℕ) → i < n / cellPixels depth → i * cellBytes depth ≤ cond back a m
+  pub each : (i : ℕ) → i < n / cellPixels depth → cellAt depth back a i + cellBytes depth ≤ m
+
+-- the steps go by pixels, from the first of a cell, or back from the last, over n pixels in whole cells
+abbrev pub beside : ℕ → Steps → ℕ → Bool
+beside depth s n =
+    eqb (s .step) depth
+    && (eqb (n % cellPixels depth) 0 && eqb (bitsAfter s 0 % 8) (cond (s .back) (8 * cellBytes depth - depth) 0))
