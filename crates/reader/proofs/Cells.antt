@@ -1,10 +1,10 @@
 -- Pixels side by side, in cells of whole bytes, are those that the steps come to.
-use Prim.Native.Nat.{ℕ, suc, _+_, _-_, _*_, _/_, _%_, _≤_, _<_, max}
+use Prim.Native.Nat.{ℕ, suc, _+_, _-_, _*_, _/_, _%_, _≤_, _<_, min, max}
 use mathlib.Core.Path.{_≡_, refl, sym, ap, _∙_}
 use mathlib.Core.List.{List}
 use mathlib.Core.Logic.{⊎-elim}
 use mathlib.Core.Bool.{Bool, true, false, cond}
-use native.Mathlib.Nat.{div-add-mod, le-div-iff-mul-le, mod-lt, mul-comm, mul-div-cancel, suc-mul}
+use native.Mathlib.Nat.{div-add-mod, le-div-iff-mul-le, mod-lt, mul-comm, mul-div-cancel, mul-le-mul-right, suc-mul}
 use native.Mathlib.Omega.{arith}
 use lib.Dec.{eqb}
 use borrow.Author.Tests.{eqb-true}
@@ -12,7 +12,8 @@ use Rattle.record.specs.Lists.{tabulate}
 use Rattle.record.proofs.Choice.{and-left, and-right}
 use Rattle.record.proofs.Lists.{tabulate-below}
 use Rattle.pixel.specs.Depth.{isDepth}
-use Rattle.pixel.proofs.Depth.{depth, depth-pos, factor-le, factor-pos}
+use Rattle.pixel.specs.Pixel.{storedPixel}
+use Rattle.pixel.proofs.Depth.{byte-depth, depth, depth-pos, factor-le, factor-pos}
 use Rattle.view.specs.Steps.{bitsAfter}
 use Rattle.view.specs.declared.Steps.{Steps}
 use Rattle.reader.specs.Along.{stepColour, Fillable, cellPixels, cellBytes, cellAt, cellColour, cellsColour, Celled, beside}
@@ -33,6 +34,35 @@ cell d deep = ⊎-elim (λ e. rw e (record { bits = refl; tight = omega arith })
         let of : cellPixels d ≡ e = ap (max 1) pixels ∙ omega arith in
         let byte : cellBytes d ≡ 1 = omega arith in
         record { bits = ap (λ (n : ℕ). n * d) of ∙ h ∙ omega (arith, byte); tight = omega (arith, byte, depth-pos d deep) }
+
+-- at depth 16 it is a pixel, else a byte
+pub wide-cell : (d : ℕ) → d ≡ 16 → (1 ≡ cellPixels d) × (2 ≡ cellBytes d)
+wide-cell d e = rw e (refl, refl)
+
+pub byte-cell : (d : ℕ) → isDepth d ≡ true → (d ≡ 16 → ⊥) → (0 < d) × ((8 / d ≡ cellPixels d) × (1 ≡ cellBytes d))
+byte-cell d deep h =
+    let e = byte-depth d deep h in
+    let small : d ≤ 8 = factor-le (e .0) d 7 (e .1) in
+    let some : 0 < d = depth-pos d deep in
+    let one : 1 ≤ 8 / d = le-div-iff-mul-le some .1 (omega arith) in
+    (some, (omega arith, omega arith))
+
+-- the t-th pixel is one of n, from either side
+pub place-below : (back : Bool) (n t : ℕ) → t < n → cond back (n - 1 - t) t < n
+place-below true n t h = omega arith
+place-below false n t h = h
+
+pub colour-of : (d : ℕ) (memory : List ℕ) (back : Bool) (a n t i r : ℕ) → n ≡ cellPixels d → i ≡ cond back (n - 1 - t) t → r ≡ storedPixel d memory a (7 - d * i)
+    → r ≡ cellColour d memory back a t
+unfolding cellColour
+colour-of d memory back a n t i r e f g = rw (g, f, e) refl
+
+-- and its bits are its byte's, at depth 16 two whole bytes
+pub bit-in : (d i : ℕ) → isDepth d ≡ true → i < cellPixels d → (d * i ≤ 7) × (min d 8 ≤ 7 - d * i + 1)
+bit-in d i deep h =
+    let c = cell d deep in
+    let ends : d * i + d ≤ 8 * cellBytes d = omega (arith, suc-mul i d, mul-comm d i, mul-le-mul-right d h, c .bits) in
+    (omega (arith, ends, c .tight), omega (arith, ends, c .tight))
 
 -- ---- the pixel j: so many cells on, and so many pixels in that cell
 module _ (d : ℕ) (deep : isDepth d ≡ true) (j : ℕ) where

@@ -5,4 +5,5 @@ pub mod Stores
 pub mod Records
 pub mod Zero
 pub mod Lists
+pub mod Filled
 pub mod Part

@@ -3,9 +3,10 @@ use mathlib.Core.Path.{_≡_, _∙_}
 use native.Mathlib.Omega.{arith}
 use lib.ListN.{length}
 use borrow.Author.Needs.{needs}
+use Rattle.record.proofs.Filled.{Filled, fill-start, fill-more, fill-end}
 use Rattle.view.specs.Steps.{bitsAfter}
 use Rattle.reader.specs.Along.{stepColour}
-use Rattle.reader_line.proofs.Filled.{Filled, fill-start, fill-more, fill-end, bits-start, bits-next, bits-near}
+use Rattle.reader_line.proofs.Bits.{bits-start, bits-next, bits-near}
 use Rattle.reader_line.proofs.fill_by.Statement.{statement}
 use Rattle.reader_line.proofs.fill_by.Tie as tie
 
