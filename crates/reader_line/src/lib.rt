@@ -10,7 +10,7 @@ ghost use Rattle.pixel.specs.Pixel.{storedPixel};
 ghost use Rattle.screen.specs.Screen.{memorySize};
 ghost use Rattle.view.specs.Steps.{windowColumns};
 ghost use Rattle.reader.specs.Line.{lineNumber, lineAfter};
-ghost use Rattle.reader.specs.Along.{Walkable, OneSide, allInside, coloursFrom, stepInside, stepColour, Near, Readable, Fillable};
+ghost use Rattle.reader.specs.Along.{Walkable, OneSide, allInside, coloursFrom, stepInside, stepColour, Near, Readable, Fillable, cellBytes, beside};
 use reader::Display;
 use screen::ScreenValues;
 use view::Columns;
@@ -76,6 +76,27 @@ fn fill_by(depth: u32, memory: &[u8], s: Steps, line: &mut [u16])
     }
 }
 
+// The bits before the first pixel of a cell, or back before its last.
+fn edge_bits(depth: u32, back: bool) -> u64
+    requires { ⌜ isDepth depth ≡ true ⌝ }
+    ensures { λ r. ⌜ r ≡ cond back (8 * cellBytes depth - depth) 0 ⌝ }
+{
+    if back {
+        return record_code::minus(8 * reader_cells::cell_bytes(depth) as u64, depth as u64);
+    }
+    0
+}
+
+// Whether n pixels stand side by side in whole cells, as at 0 and 180 degrees they always do.
+fn is_beside(depth: u32, s: Steps, n: usize) -> bool
+    requires { ⌜ isDepth depth ≡ true ⌝ }
+    ensures { λ r. ⌜ r ≡ beside depth s n ⌝ }
+{
+    let bits = record_code::minus(s.ahead, s.behind);
+    let whole = n % reader_cells::cell_pixels(depth) == 0;
+    (s.step == depth as u64) & (whole & (bits % 8 == edge_bits(depth, s.back)))
+}
+
 // Fills a line with the colours of its columns, from panel column `from` on, on one side of the window's edges.
 fn fill_run(d: Display, values: ScreenValues, q: u32, from: u32, memory: &[u8], line: &mut [u16])
     requires { ⌜ Walkable d values × (OneSide d values q from (length (now line)) × ((length (now line) ≤ 4294967296) × (allInside (length (now memory)) d values q from (length (now line)) ≡ true))) ⌝ }
@@ -85,6 +106,11 @@ fn fill_run(d: Display, values: ScreenValues, q: u32, from: u32, memory: &[u8], 
         return;
     }
     let s = view_code::steps_from(d.depth, d.rotation, d.flag, values, from, q);
+    if is_beside(d.depth, s, line.len()) {
+        let bits = record_code::minus(s.ahead, s.behind);
+        reader_cells::fill_beside(d.depth, memory, s.back, (bits / 8) as usize, line);
+        return;
+    }
     fill_by(d.depth, memory, s, line);
 }
 

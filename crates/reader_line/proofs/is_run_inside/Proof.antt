@@ -7,10 +7,6 @@ use Prim.Native.Nat.{_-_}
 use borrow.Author.Needs.{needs}
 use Rattle.reader_line.proofs.is_run_inside.Statement.{statement}
 use Rattle.reader_line.proofs.is_run_inside.Tie as tie
-use Rattle.reader_line.proofs.is_run_inside.Reads as reads
-use Rattle.reader_line.proofs.is_run_inside.Lts as lts
-use Rattle.reader_line.proofs.is_inside.Reads as is-inside-reads
-use Rattle.view_code.proofs.steps_from.Reads as steps-from-reads
 
 -- the steps' sums fit
 close-by : (c : tie.After-steps-from) → Near (c .steps-from .result)
@@ -21,27 +17,21 @@ close-by c =
 returns : tie.Need-returns
 returns c = inside-none _ _ _ _ _ _ (c .if1 .taken)
 
--- src/lib.rt:39:9
 steps-from-requires : tie.Need-steps-from-requires
 steps-from-requires c κs = search needs
 
--- src/lib.rt:40:5
 is-inside-requires : tie.Need-is-inside-requires
 is-inside-requires c κs = close-by c
 
--- src/lib.rt:40:48
 sub-is-inside : tie.Need-sub-is-inside
 sub-is-inside c = search needs
 
--- src/lib.rt:40:48
 sub-is-inside-2 : tie.Need-sub-is-inside-2
 sub-is-inside-2 c = search needs
 
--- src/lib.rt:40:29
 is-inside-requires-2 : tie.Need-is-inside-requires-2
 is-inside-requires-2 c κs = close-by (c .before)
 
--- src/lib.rt:32:1
 returns-2 : tie.Need-returns-2
 returns-2 c =
     let f = c .before .before .before .before .args in

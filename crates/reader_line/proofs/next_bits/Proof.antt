@@ -1,23 +1,16 @@
 use borrow.Author.Needs.{needs}
 use Rattle.reader_line.proofs.next_bits.Statement.{statement}
 use Rattle.reader_line.proofs.next_bits.Tie as tie
-use Rattle.reader_line.proofs.next_bits.Reads as reads
-use Rattle.reader_line.proofs.next_bits.Lts as lts
-use Rattle.record_code.proofs.minus.Reads as minus-reads
 
--- src/lib.rt:57:9
 minus-requires : tie.Need-minus-requires
 minus-requires c κs = search needs
 
--- src/lib.rt:57:9
 returns : tie.Need-returns
 returns c = simp (c .before .if1 .taken, c .minus .ensures)
 
--- src/lib.rt:59:5
 add-result : tie.Need-add-result
 add-result c = search needs
 
--- src/lib.rt:52:1
 returns-2 : tie.Need-returns-2
 returns-2 c = simp (c .before .if1 .left)
 
