@@ -176,10 +176,12 @@ pub fn read_line_in(
         return n;
     }
     let c = view_code::window_columns(d.depth, d.rotation, d.flag, values, d.width, q);
-    if !is_line_inside(size, d, values, q, c) {
+    let inside = is_line_inside(size, d, values, q, c);
+    let whole = line.len() == d.width as usize;
+    if !inside {
         return 25;
     }
-    if line.len() != d.width as usize {
+    if !whole {
         return 17;
     }
     fill_line(d, values, q, c, memory, line);

@@ -3,7 +3,7 @@ use mathlib.Core.Bool.{Bool, true, false}
 use native.Mathlib.Omega.{arith}
 use lib.ListN.{length, take}
 use borrow.Author.Needs.{needs}
-use borrow.Author.Tests.{not-true, not-false}
+use borrow.Author.Tests.{eqb-true, eqb-false, not-true, not-false}
 use Rattle.record.specs.Checks.{firstOf}
 use Rattle.reader.specs.Read.{readRows}
 use Rattle.reader.proofs.Line.{line-refused, walkable, sized, line-outside, line-short, line-filled}
@@ -24,26 +24,32 @@ window-columns-requires : tie.Need-window-columns-requires
 window-columns-requires c κs = search needs
 
 is-line-inside-requires : tie.Need-is-line-inside-requires
-is-line-inside-requires c κs = let a = c .before .before .before .before .before .args in (walkable (a .size) (a .d) (a .values) (a .q) (a .memory .now) (a .line .now) (none-fails (c .before)), c .window-columns .ensures)
+is-line-inside-requires c κs =
+    let a = c .before .before .before .before .before .args in
+    (walkable (a .size) (a .d) (a .values) (a .q) (a .memory .now) (a .line .now) (none-fails (c .before)), c .window-columns .ensures)
+
+cast-whole : tie.Need-cast-whole
+cast-whole c = search needs
 
 returns-2 : tie.Need-returns-2
-returns-2 c = line-outside _ _ _ _ _ _ (none-fails (c .before .before .before)) (sym (c .before .is-line-inside .ensures) ∙ not-true _ (c .if2 .taken))
-
-cast-if3 : tie.Need-cast-if3
-cast-if3 c = search needs
+returns-2 c =
+    let asked = c .before .before in
+    line-outside _ _ _ _ _ _ (none-fails (asked .before .before)) (sym (asked .is-line-inside .ensures) ∙ not-true _ (c .if2 .taken))
 
 returns-3 : tie.Need-returns-3
 returns-3 c =
-    line-short _ _ _ _ _ _ (none-fails (c .before .before .before .before .before)) (sym (c .before .before .before .is-line-inside .ensures) ∙ not-false _ (c .before .before .if2 .left)) (c .if3 .taken)
+    let asked = c .before .before .before in
+    line-short _ _ _ _ _ _ (none-fails (asked .before .before)) (sym (asked .is-line-inside .ensures) ∙ not-false _ (c .before .if2 .left)) (eqb-false _ _ (not-true _ (c .if3 .taken)))
 
 fill-line-requires : tie.Need-fill-line-requires
 fill-line-requires c κs =
-    let past = c .before .before .before .before .before .before in
+    let asked = c .before .before .before .before in
+    let past = asked .before .before in
     let a = past .before .before .before .before .args in
     let none = none-fails past in
-    let all = sym (c .before .before .before .before .is-line-inside .ensures) ∙ not-false _ (c .before .before .before .if2 .left) in (
+    let all = sym (asked .is-line-inside .ensures) ∙ not-false _ (c .before .before .if2 .left) in (
       walkable (a .size) (a .d) (a .values) (a .q) (a .memory .now) (a .line .now) none,
-      (c .before .before .before .before .before .window-columns .ensures, (c .before .if3 .left, rw (sized (a .size) (a .d) (a .values) (a .q) (a .memory .now) (a .line .now) none) all)),
+      (asked .before .window-columns .ensures, (eqb-true _ _ (not-false _ (c .before .if3 .left)), rw (sized (a .size) (a .d) (a .values) (a .q) (a .memory .now) (a .line .now) none) all)),
     )
 
 same-length : tie.Need-same-length
@@ -52,10 +58,9 @@ same-length c = search needs
 returns-4 : tie.Need-returns-4
 returns-4 c =
     let filled = c .before .before in
-    let inside = filled .before .before .before .before .before in
-    let past = inside .before .before in
-    let all = sym (inside .is-line-inside .ensures) ∙ not-false _ (filled .before .before .before .before .if2 .left) in
-    let done = line-filled _ _ _ _ _ _ (none-fails past) all (filled .before .before .if3 .left) in
+    let asked = filled .before .before .before .before .before in
+    let all = sym (asked .is-line-inside .ensures) ∙ not-false _ (filled .before .before .before .if2 .left) in
+    let done = line-filled _ _ _ _ _ _ (none-fails (asked .before .before)) all (eqb-true _ _ (not-false _ (filled .before .before .if3 .left))) in
     (done .0, filled .fill-line .ensures ∙ done .1)
 
 pub read-line-in-spec : {M : Type 1} → statement M
@@ -66,8 +71,8 @@ read-line-in-spec =
     returns
     window-columns-requires
     is-line-inside-requires
+    cast-whole
     returns-2
-    cast-if3
     returns-3
     fill-line-requires
     same-length
