@@ -6,28 +6,28 @@ use mathlib.Core.List.{List, [], _∷_}
 use native.Mathlib.Nat.{le-trans, mul-suc, mul-le-mul-left, mul-div-le, one-mul, mod-eq-of-lt}
 use native.Mathlib.Numerals.{add-one}
 use native.Mathlib.Omega.{arith}
-use lib.ListN.{length}
+use lib.ListN.{length, getD}
 use lib.Dec.{eqb}
 use lib.Pow.{pow-mono, pow-pos}
 use lib.Seq.{sets}
 use borrow.Author.Tests.{eq-eqb, ne-eqb}
 use Rattle.io.specs.Counts.{Counts}
-use Rattle.screen.specs.Screen.{memorySize}
-use Rattle.screen.specs.declared.ScreenValues.{ScreenValues}
-use Rattle.reader.specs.Read.{Reading, reading}
-use Rattle.reader.specs.declared.Display.{Display}
 use Rattle.text.specs.Lines.{joined}
 use Rattle.text.proofs.Joined.{Filling, fill-turn, fill-end}
 use Rattle.text.proofs.Stored.{counts}
-use Rattle.picture.specs.Picture.{highest, pixelSize, fromFive, fromSix, pixelBytes, pointBytes}
+use Rattle.picture.specs.Picture.{highest, pixelSize, fromFive, fromSix, pixelBytes}
 
 chosen : (b : Bool) (x y : List ℕ) (m n : ℕ) → length x ≡ m → length y ≡ n → length (cond b x y) ≡ cond b m n
 chosen true x y m n e f = e
 chosen false x y m n e f = f
 
-pub length-point : (d : Display) (values : ScreenValues) (q : ℕ) (memory : List ℕ) (p : ℕ) → length (pointBytes d values q memory p) ≡ pixelSize (d .depth)
-unfolding pointBytes pixelBytes pixelSize
-length-point d values q memory p = chosen (eqb (d .depth) 16) _ _ 3 1 refl refl
+-- the bytes of colour p of a list
+abbrev bytesOf : ℕ → List ℕ → ℕ → List ℕ
+bytesOf depth colours p = pixelBytes depth (getD colours p 0)
+
+length-pixel : (depth : ℕ) (colours : List ℕ) (p : ℕ) → length (bytesOf depth colours p) ≡ pixelSize depth
+unfolding pixelBytes pixelSize
+length-pixel depth colours p = chosen (eqb depth 16) _ _ 3 1 refl refl
 
 one-or-three : (b : Bool) → (1 ≤ cond b 3 1) × (cond b 3 1 ≤ 3)
 one-or-three true = (omega arith, omega arith)
@@ -53,24 +53,24 @@ next-room k i n room at h f e =
 pub next-place : (k i at : ℕ) → at ≡ k * i → at + k ≡ k * (i + 1)
 next-place k i at e = rw (add-one, mul-suc, e)
 
--- point i of a line behind the i points before it
-module _ (d : Display) (values : ScreenValues) (q : ℕ) (memory old : List ℕ) (size n : ℕ) (is : size ≡ pixelSize (d .depth)) where
-  pub point-turn : (l new : List ℕ) (i at c : ℕ) (r : Reading) → at ≡ size * i → Filling (pointBytes d values q memory) n old l i → i < n → c ≡ r .colour → r ≡ reading memorySize d values i q memory → new ≡ sets l at (pixelBytes (d .depth) c) → Filling (pointBytes d values q memory) n old new (i + 1)
-  unfolding pointBytes
-  point-turn l new i at c r e g h p f s =
-      let place : at ≡ pixelSize (d .depth) * i = e ∙ ap (λ (k : ℕ). k * i) is in
-      let colour : c ≡ reading memorySize d values i q memory .colour = p ∙ ap (λ (x : Reading). x .colour) f in
-      fill-turn (pixelSize (d .depth)) (pointBytes d values q memory) (length-point d values q memory) n old l new i g h
-      (s ∙ ap (λ (x : ℕ). sets l at (pixelBytes (d .depth) x)) colour ∙ ap (λ (j : ℕ). sets l j (pointBytes d values q memory i)) place)
+-- pixel i of a line behind the i pixels before it
+module _ (depth : ℕ) (colours old : List ℕ) (size n : ℕ) (is : size ≡ pixelSize depth) where
+  pub pixel-turn : (l new : List ℕ) (i at c : ℕ) → at ≡ size * i → Filling (bytesOf depth colours) n old l i → i < n → c ≡ getD colours i 0 → new ≡ sets l at (pixelBytes depth c)
+      → Filling (bytesOf depth colours) n old new (i + 1)
+  pixel-turn l new i at c e g h f s =
+      let place : at ≡ pixelSize depth * i = e ∙ ap (λ (k : ℕ). k * i) is in
+      fill-turn (pixelSize depth) (bytesOf depth colours) (length-pixel depth colours) n old l new i g h
+      (s ∙ ap (λ (x : ℕ). sets l at (pixelBytes depth x)) f ∙ ap (λ (j : ℕ). sets l j (bytesOf depth colours i)) place)
 
   -- the whole line: its bytes, and what the buffer holds
-  pub points-end : (l : List ℕ) (i at w : ℕ) → at ≡ size * i → Filling (pointBytes d values q memory) n old l i → n ≤ i → n ≡ min w (length old / size) → size * n ≤ length old → (at ≡ pixelSize (d .depth) * min w (length old / pixelSize (d .depth))) × (Counts at l × (l ≡ sets old 0 (joined (pointBytes d values q memory) (min w (length old / pixelSize (d .depth))))))
-  points-end l i at w e g h m room =
+  pub pixels-end : (l : List ℕ) (i at w : ℕ) → at ≡ size * i → Filling (bytesOf depth colours) n old l i → n ≤ i → n ≡ min w (length old / size) → size * n ≤ length old
+      → (at ≡ pixelSize depth * min w (length old / pixelSize depth)) × (Counts at l × (l ≡ sets old 0 (joined (bytesOf depth colours) (min w (length old / pixelSize depth)))))
+  pixels-end l i at w e g h m room =
       let same : i ≡ n = omega (arith, g .within) in
-      let count : n ≡ min w (length old / pixelSize (d .depth)) = m ∙ ap (λ (k : ℕ). min w (length old / k)) is in
+      let count : n ≡ min w (length old / pixelSize depth) = m ∙ ap (λ (k : ℕ). min w (length old / k)) is in
       let all : at ≡ size * n = e ∙ ap (λ (k : ℕ). size * k) same in (
-        all ∙ ap (λ (k : ℕ). size * k) count ∙ ap (λ (k : ℕ). k * min w (length old / pixelSize (d .depth))) is,
-        (counts at l (omega (arith, g .same)), fill-end (pointBytes d values q memory) n _ old l i g h count),
+        all ∙ ap (λ (k : ℕ). size * k) count ∙ ap (λ (k : ℕ). k * min w (length old / pixelSize depth)) is,
+        (counts at l (omega (arith, g .same)), fill-end (bytesOf depth colours) n _ old l i g h count),
       )
 
 -- ---- depth 16, and the others

@@ -1,11 +1,11 @@
 // The panel as a picture: its head, and a line of its points. And the line of text that says what one point shows.
 ghost use mathlib.Core.Path.{_≡_};
-ghost use Prim.Native.Nat.{_+_, _*_, _%_};
-ghost use lib.ListN.{length};
+ghost use Prim.Native.Nat.{_+_, _*_, _/_, _%_, min};
+ghost use lib.ListN.{length, getD};
 ghost use lib.Seq.{sets};
 ghost use Rattle.io.specs.Counts.{Counts};
 ghost use Rattle.screen.specs.Screen.{memorySize};
-ghost use Rattle.reader.specs.Read.{reading, readingOf, answerOf};
+ghost use Rattle.reader.specs.Read.{reading, answerOf};
 ghost use Rattle.text.specs.Lines.{joined};
 ghost use Rattle.text.specs.Text.{Stored};
 ghost use Rattle.picture.specs.Picture.{highest, pictureKind, pictureHead, pixelSize, fromFive, fromSix, pixelBytes, pointBytes, pixelsIn, answerLine};
@@ -54,16 +54,6 @@ fn pixel_size(depth: u32) -> usize
     if depth == 16 { 3 } else { 1 }
 }
 
-// The colour of an answer; 0 for a refusal.
-fn colour_of(a: PointAnswer) -> u16
-    ensures { λ r. ⌜ r ≡ readingOf a .colour ⌝ }
-{
-    match a {
-        PointAnswer::Shown(c, address, bit) => c,
-        PointAnswer::Refused(n) => 0,
-    }
-}
-
 // The last five bits of a number, widened to eight.
 fn from_five(v: u16) -> u8
     ensures { λ r. ⌜ r ≡ fromFive (v % 32) ⌝ }
@@ -93,24 +83,43 @@ fn put_colour(line: &mut [u8], at: usize, depth: u32, c: u16)
     }
 }
 
-// Line q of the panel's picture, as many points as there is room for; answers its bytes.
+// Colour p of a line; 0 past its end.
+fn colour_at(colours: &[u16], p: usize) -> u16
+    ensures { λ r. ⌜ r ≡ getD (now (colours .entry)) p 0 ⌝ }
+{
+    if p < colours.len() { colours[p] } else { 0 }
+}
+
+// Stores the bytes of a line's first `width` points, as many as there is room for; answers how many bytes.
+fn put_colours(depth: u32, width: usize, colours: &[u16], line: &mut [u8]) -> usize
+    ensures { λ r. ⌜ r ≡ pixelSize depth * min width (length (now (line .entry)) / pixelSize depth) ⌝ }
+    ensures { λ r. ⌜ Counts r (now (line .exit)) ⌝ }
+    ensures { λ r. ⌜ now (line .exit) ≡ sets (now (line .entry)) 0 (joined (λ p. pixelBytes depth (getD (now (colours .entry)) p 0)) (min width (length (now (line .entry)) / pixelSize depth))) ⌝ }
+{
+    let size = pixel_size(depth);
+    let n = record_code::least(width, line.len() / size);
+    let mut i = 0;
+    let mut at = 0;
+    while i < n {
+        put_colour(line, at, depth, colour_at(colours, i));
+        at += size;
+        i += 1;
+    }
+    at
+}
+
+// Line q of the panel's picture, as many points as there is room for; answers its bytes. A panel of more than 1,024 columns is refused, so its
+// colours are 0.
 pub fn put_points(d: Display, values: ScreenValues, q: u32, memory: &[u8], line: &mut [u8]) -> usize
     ensures { λ r. ⌜ r ≡ pixelSize (d .depth) * pixelsIn d (length (now (line .entry))) ⌝ }
     ensures { λ r. ⌜ Counts r (now (line .exit)) ⌝ }
     ensures { λ r. ⌜ now (line .exit) ≡ sets (now (line .entry)) 0 (joined (pointBytes d values q (now (memory .entry))) (pixelsIn d (length (now (line .entry))))) ⌝ }
 {
-    let depth = d.depth;
-    let size = pixel_size(depth);
-    let n = record_code::least(d.width as usize, line.len() / size);
-    let mut i = 0;
-    let mut at = 0;
-    while i < n {
-        let answer = reader_code::read_point(d, values, i as u32, q, memory);
-        put_colour(line, at, depth, colour_of(answer));
-        at += size;
-        i += 1;
-    }
-    at
+    let width = d.width as usize;
+    let mut colours = [0u16; 1024];
+    let n = record_code::least(width, 1024);
+    reader_line::read_line(d, values, q, memory, &mut colours[..n]);
+    put_colours(d.depth, width, &colours, line)
 }
 
 // The line of panel point (p, q), or of its refusal, cut where there is no room; answers its bytes.
