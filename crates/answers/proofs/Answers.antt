@@ -2,6 +2,7 @@
 use Prim.Native.Nat.{ℕ, _^_, _<_}
 use mathlib.Core.Path.{_≡_, sym, ap, subst, refl, _∙_}
 use mathlib.Core.List.{List, [], _∷_}
+use lib.ListN.{length}
 use Rattle.screen.specs.declared.Screen.{Screen}
 use Rattle.screen.specs.declared.ScreenValues.{ScreenValues}
 use Rattle.screen.specs.Narrow.{Narrow}
@@ -14,6 +15,7 @@ use Rattle.chip.specs.Play.{playingOf}
 use Rattle.chip.specs.declared.Played.{Played}
 use Rattle.chip.specs.declared.Played.the-variants as Played
 use Rattle.reader.specs.Read.{displayOf, readingOf}
+use Rattle.reader.specs.Line.{lineNumber, lineAfter}
 use Rattle.reader.specs.Looking.{looking}
 use Rattle.reader.specs.declared.Display.{Display}
 use Rattle.reader.specs.declared.Look.{Look}
@@ -91,6 +93,13 @@ module _ (a : PointAnswer) where
 -- a look by values that are w
 pub looking-with : (at : Look) (m : ℕ) (d : Display) (v w : ScreenValues) (p q n : ℕ) → at ≡ looking m d v p q n → v ≡ w → at ≡ looking m d w p q n
 looking-with at m d v w p q n f h = f ∙ ap (λ (x : ScreenValues). looking m d x p q n) h
+
+-- a line by values that are w
+pub line-with : (n m : ℕ) (d : Display) (v w : ScreenValues) (q : ℕ) (memory old new : List ℕ)
+    → n ≡ lineNumber m d v q memory (length old) → new ≡ lineAfter m d v q memory old → v ≡ w
+    → (n ≡ lineNumber m d w q memory (length old)) × (new ≡ lineAfter m d w q memory old)
+line-with n m d v w q memory old new e f h =
+    (e ∙ ap (λ (x : ScreenValues). lineNumber m d x q memory (length old)) h, f ∙ ap (λ (x : ScreenValues). lineAfter m d x q memory old) h)
 
 -- ---- drawing
 module _ (a : Drawn) where
