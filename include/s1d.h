@@ -1,9 +1,9 @@
 /* S1D13A05 display unit: keeping hourly samples and making the drawing list of the wear strip that shows
  * the last of them, compiling a drawing list in either form and turning it into the other one, playing
- * its stream over a display memory, whole or in small blocks, and reading what a panel point shows; and,
- * where a name begins with s1d06, the same of the older units' S1D13706, which has no blits, so no
- * commands and no player. docs/FORMATS.md has the records, registers and pixels by bytes and bits, and
- * docs/TRUST.md what is proved and what is assumed.
+ * its stream over a display memory, whole or in small blocks, and reading what a panel point or a whole
+ * panel line shows; and, where a name begins with s1d06, the same of the older units' S1D13706, which has
+ * no blits, so no commands and no player. docs/FORMATS.md has the records, registers and pixels by bytes
+ * and bits, and docs/TRUST.md what is proved and what is assumed.
  *
  * Pointers. Each pointer is followed by its length in elements, but for values, which has six, bytes,
  * which has eighteen, and player and ring, which are one. It is valid for that length, and not null even
@@ -101,10 +101,10 @@ enum s1d_raster {
  *
  * Refusals. The first whose text holds is given, in the order of the numbers, but that 26 is checked
  * after 5 for main and after 8 for the window, and that commands (12, 13, 14, 29, 15) and stream records
- * (20 to 23) are checked one after another; s1d_read_point, s1d_draw, s1d_feed, s1d_end, s1d_wear_strip,
- * s1d_to_long and s1d_to_short name their own order. 7 to 9, and 26 for the window, apply with flag 1
- * only. The functions of the S1D13706 ask 6, 9 and 18 with 81920, 25 with 20479, and give 11 for any
- * list that is not empty.
+ * (20 to 23) are checked one after another; s1d_read_point, s1d_read_line, s1d_draw, s1d_feed, s1d_end,
+ * s1d_wear_strip, s1d_to_long and s1d_to_short name their own order. 7 to 9, and 26 for the window, apply
+ * with flag 1 only. The functions of the S1D13706 ask 6, 9 and 18 with 81920, 25 with 20479, and give 11
+ * for any list that is not empty.
  *
  * place is the command's index for 12 to 15 and 29, the stream record's for 20 to 23, else 0. Both count
  * from 0. */
@@ -130,7 +130,7 @@ enum s1d_refusal {
     S1D_WORDS_MISSING = 15,     /* too few host words for this and the earlier writes */
     S1D_WORDS_LEFT = 16,        /* host words left over at the end */
     S1D_STREAM_ROOM = 17,       /* stream buffer shorter than the stream; a wear strip's list or word buffer, or a
-                                   turned list's target, too short */
+                                   turned list's target, too short; line buffer not the panel's width */
     S1D_MEMORY_FORM = 18,       /* memory not 262144 bytes */
     S1D_STREAM_FORM = 19,       /* stream not a multiple of 8 bytes */
     S1D_RECORD_NUMBER = 20,     /* number not a listed register nor 10000h */
@@ -298,6 +298,17 @@ s1d_point s1d_read_point(uint32_t depth, uint32_t rotation, uint32_t flag,
                          uint32_t p, uint32_t q,
                          const uint8_t *memory, size_t memory_length);
 
+/* Fills line with what panel line q shows, a colour for each panel column from the left: those that
+ * s1d_read_point gives for (0, q), (1, q) and so on, with the same arguments. line_length is width. Gives
+ * 0, or the refusal, and then line is as it was.
+ * Refusals, in the order of checking: of the leftmost point that s1d_read_point refuses its number (18, 1,
+ * 2, 3, 4, 5, 21, 24, 25), where width is 0 that of (0, q); 17 (line_length not width). */
+uint32_t s1d_read_line(uint32_t depth, uint32_t rotation, uint32_t flag,
+                       uint32_t width, uint32_t height, const uint32_t values[6],
+                       uint32_t q,
+                       const uint8_t *memory, size_t memory_length,
+                       uint16_t *line, size_t line_length);
+
 /* Compiles, then plays the stream: stream and memory as s1d_compile and s1d_play leave them, or both
  * as they were. Refusals 18, then as s1d_compile. */
 s1d_drawn s1d_draw(uint32_t form,
@@ -389,6 +400,13 @@ s1d_point s1d06_read_point(uint32_t depth, uint32_t rotation, uint32_t flag,
                            uint32_t width, uint32_t height, const uint32_t values[6],
                            uint32_t p, uint32_t q,
                            const uint8_t *memory, size_t memory_length);
+
+/* As s1d_read_line, of the S1D13706's memory. */
+uint32_t s1d06_read_line(uint32_t depth, uint32_t rotation, uint32_t flag,
+                         uint32_t width, uint32_t height, const uint32_t values[6],
+                         uint32_t q,
+                         const uint8_t *memory, size_t memory_length,
+                         uint16_t *line, size_t line_length);
 
 #ifdef __cplusplus
 }

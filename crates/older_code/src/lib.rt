@@ -1,4 +1,4 @@
-// The older units' S1D13706: compiling for it, its six values from eighteen bytes, and its point reader.
+// The older units' S1D13706: compiling for it, its six values from eighteen bytes, its point reader and its line reader.
 ghost use mathlib.Core.Path.{_≡_};
 ghost use Prim.Native.Nat.{_≤_};
 ghost use lib.ListN.{length};

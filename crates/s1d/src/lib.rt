@@ -247,7 +247,7 @@ pub extern "C" fn s1d06_read_point(
     answers_code::point_of(reader_code::see(depth, memory, older))
 }
 
-// The same of the S1D13706's memory.
+// Fills the line with what panel line q shows of the S1D13706's memory.
 #[no_mangle]
 pub extern "C" fn s1d06_read_line(
     depth: u32,
