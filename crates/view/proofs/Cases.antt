@@ -8,7 +8,7 @@ use Rattle.screen.specs.declared.Screen.{Screen}
 use Rattle.screen.specs.declared.ScreenValues.{ScreenValues}
 use Rattle.view.specs.View.{viewPixel, inWindow, windowPixel, bitAddress}
 use Rattle.view.specs.Walk.{walk, inWindowBy, cornerP, cornerQ, placeOf}
-use Rattle.view.specs.Steps.{windowColumns, stepsFrom, bitsAfter}
+use Rattle.view.specs.Steps.{windowColumns, stepsAt, stepsFrom, bitsAfter}
 use Rattle.view.specs.Shows.{shownBit}
 
 abbrev rotations : List ℕ
@@ -70,7 +70,7 @@ columns = refl
 -- the bits before the pixel two steps on from (8, 4): before pixel 2 of dword 5,002 and pixel 5 of dword 4,998, in the window; and, turned, before pixel 3
 -- of dword 1,400 and pixel 4 of dword 600, in the main image
 pub steps : map (λ r. bitsAfter (stepsFrom 4 r 1 values 8 4) 2) rotations ≡ 160072 ∷ 44812 ∷ 159956 ∷ 19216 ∷ []
-unfolding walk inWindowBy cornerP cornerQ placeOf stepsFrom
+unfolding walk inWindowBy cornerP cornerQ placeOf stepsFrom stepsAt
 steps = refl
 
 -- the bits before the pixel that an upright screen of depth 4 shows at (10, 4), a window of 16 by 2 at (8, 3) with its image at byte 40,000 over it or not

@@ -16,7 +16,7 @@ use Rattle.screen.specs.declared.ScreenValues.{ScreenValues}
 use Rattle.screen.proofs.Fits.{OriginFits, fields-say}
 use Rattle.screen.proofs.Spans.{unitX, unitY}
 use Rattle.view.specs.Walk.{walk, startEdge, endEdge, between, cornerP, cornerQ, placeOf}
-use Rattle.view.specs.Steps.{isWindows, meetsWindow, windowColumns, stepsFrom, aheadAfter, behindAfter}
+use Rattle.view.specs.Steps.{isWindows, meetsWindow, windowColumns, stepsAt, stepsFrom, aheadAfter, behindAfter}
 use Rattle.view.specs.declared.Place.{Place}
 use Rattle.view.specs.declared.Columns.{Columns}
 use Rattle.view.proofs.Reaches.{low-place}
@@ -148,7 +148,7 @@ pub steps-come : (depth rotation flag : ℕ) (v : ScreenValues) (a q j : ℕ) �
     → let s = stepsFrom depth rotation flag v a q in
     let w = placeOf depth rotation flag v (a + j) q in
     aheadAfter s j + 32 * w .down ≡ behindAfter s j + (32 * w .up + depth * w .pixel)
-unfolding stepsFrom
+unfolding stepsFrom stepsAt
 steps-come depth r flag v a q j deep h side = by (isWindows depth r flag v a q) refl
   where
     -- column a + j of the window, counted from its corner
@@ -167,7 +167,7 @@ steps-come depth r flag v a q j deep h side = by (isWindows depth r flag v a q) 
 pub steps-bound : (depth rotation flag : ℕ) (v : ScreenValues) (p q : ℕ) → isDepth depth ≡ true → rotation < 4 → valuesFit v ≡ true
     → p < 4294967296 → q < 4294967296
     → let s = stepsFrom depth rotation flag v p q in (s .ahead ≤ 281474976710656) × ((s .behind ≤ 281474976710656) × (s .step ≤ 32768))
-unfolding stepsFrom
+unfolding stepsFrom stepsAt
 steps-bound depth r flag v p q deep h fit hp hq =
     let w = place-bound depth r flag v p q deep h fit hp hq in
     let bits = mul-le-mul {n₂ = 16} {m₂ = 31} (depth-le depth deep) (le-pred-of-lt (w .1 .1)) in

@@ -7,6 +7,7 @@ use Rattle.pixel.specs.Depth.{perDword}
 use Rattle.screen.specs.Screen.{quarter}
 use Rattle.screen.specs.declared.ScreenValues.{ScreenValues}
 use Rattle.view.specs.Walk.{startEdge, endEdge, between, inWindowBy, placeOf}
+use Rattle.view.specs.declared.Place.{Place}
 use Rattle.view.specs.declared.Columns.{Columns}
 use Rattle.view.specs.declared.Steps.{Steps}
 
@@ -32,17 +33,22 @@ windowColumns depth rotation flag values width q =
     (record { from = from; to = max from to })
     (record { from = 0; to = 0 })
 
--- the steps from panel point (p, q) on: a pixel at 0 and 180 degrees, a line of the image at 90 and 270; back at 180 and 270
-unfoldable pub stepsFrom : ℕ → ℕ → ℕ → ScreenValues → ℕ → ℕ → Steps
-stepsFrom depth rotation flag values p q =
-    let w = placeOf depth rotation flag values p q in
-    let offset = cond (isWindows depth rotation flag values p q) (values .window .offset) (values .main .offset) in
+-- the steps of a walk that has come to a place, along an image with a line offset: a pixel at 0 and 180 degrees, a line of the image at 90 and
+-- 270; back at 180 and 270
+unfoldable pub stepsAt : ℕ → ℕ → Place → ℕ → Steps
+stepsAt depth rotation w offset =
     record {
       ahead = 32 * w .up + depth * w .pixel;
       behind = 32 * w .down;
       step = cond (quarter rotation) (32 * offset) depth;
       back = ltb 1 rotation;
     }
+
+-- the steps from panel point (p, q) on
+unfoldable pub stepsFrom : ℕ → ℕ → ℕ → ScreenValues → ℕ → ℕ → Steps
+stepsFrom depth rotation flag values p q =
+    stepsAt depth rotation (placeOf depth rotation flag values p q)
+    (cond (isWindows depth rotation flag values p q) (values .window .offset) (values .main .offset))
 
 -- after j steps
 abbrev pub aheadAfter : Steps → ℕ → ℕ

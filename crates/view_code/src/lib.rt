@@ -6,7 +6,7 @@ ghost use Prim.Native.Nat.{_+_, _*_, _≤_, _<_, min};
 ghost use Rattle.pixel.specs.Depth.{isDepth};
 ghost use Rattle.screen.specs.Fields.{valuesFit};
 ghost use Rattle.view.specs.Walk.{walk, between, inWindowBy, cornerP, cornerQ, placeOf};
-ghost use Rattle.view.specs.Steps.{meetsWindow, windowColumns, stepsFrom};
+ghost use Rattle.view.specs.Steps.{meetsWindow, windowColumns, stepsAt, stepsFrom};
 use screen::Origin;
 use screen::ScreenValues;
 use view::Columns;
@@ -166,6 +166,21 @@ pub fn window_columns(
     }
 }
 
+// The steps of a walk that has come to a place, along an image with a line offset.
+fn steps_at(depth: u32, rotation: u32, w: Place, offset: u64) -> Steps
+    requires { ⌜ (depth ≤ 16) × (offset < 1024) × (w .up ≤ 4398046576640) × (w .down ≤ 4398046576640) × (w .pixel < 32) ⌝ }
+    ensures { λ r. ⌜ r ≡ stepsAt depth rotation w offset ⌝ }
+{
+    let bits = depth as u64;
+    let turned = (rotation == 1) | (rotation == 3);
+    Steps {
+        ahead: 32 * w.up + bits * w.pixel,
+        behind: 32 * w.down,
+        step: either(turned, 32 * offset, bits),
+        back: 1 < rotation,
+    }
+}
+
 // The walk from panel point (p, q) on by steps, from values that are in their fields.
 pub fn steps_from(
     depth: u32,
@@ -178,18 +193,15 @@ pub fn steps_from(
     requires { ⌜ (isDepth depth ≡ true) × (rotation < 4) × (valuesFit values ≡ true) ⌝ }
     ensures { λ r. ⌜ r ≡ stepsFrom depth rotation flag values p q ⌝ }
 {
-    let w = place_of(depth, rotation, flag, values, p, q);
     let k = pixel_code::per_dword(depth);
     let main = values.main;
     let window = values.window;
-    let windows = in_window(flag, rotation, k, values.x, values.y, p, q);
-    let offset = either(windows, window.offset, main.offset);
-    let bits = depth as u64;
-    let turned = (rotation == 1) | (rotation == 3);
-    Steps {
-        ahead: 32 * w.up + bits * w.pixel,
-        behind: 32 * w.down,
-        step: either(turned, 32 * offset, bits),
-        back: 1 < rotation,
+    if in_window(flag, rotation, k, values.x, values.y, p, q) {
+        let x = record_code::minus(p as u64, corner_p(rotation, k, values.x));
+        let y = record_code::minus(q as u64, corner_q(rotation, k, values.y));
+        let w = walk_to(rotation, k, window, x as u32, y as u32);
+        return steps_at(depth, rotation, w, window.offset);
     }
+    let w = walk_to(rotation, k, main, p, q);
+    steps_at(depth, rotation, w, main.offset)
 }
