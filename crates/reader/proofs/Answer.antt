@@ -6,7 +6,7 @@ use mathlib.Core.Bool.{Bool, true, false, not, cond}
 use native.Mathlib.Omega.{arith}
 use lib.ListN.{length, take, drop, take-append-drop}
 use lib.Dec.{leb, eqb, lit<}
-use borrow.Author.Tests.{ne-eqb, eqb-true, ltb-true, ltb-false, not-false}
+use borrow.Author.Tests.{ne-eqb, eqb-true, eqb-false, ltb-true, ltb-false, not-false}
 use Rattle.record.specs.Checks.{Row, firstOf, AllPass, Numbered}
 use Rattle.record.proofs.Checks.{none, first-part, second-part}
 use Rattle.record.proofs.Choice.{and-right}
@@ -19,7 +19,7 @@ use Rattle.screen.specs.declared.ScreenValues.{ScreenValues}
 use Rattle.view.specs.declared.Place.{Place}
 use Rattle.view.proofs.Reaches.{low-place}
 use Rattle.reader.specs.Read.{Reading, lookedAt, dwordInside, readRows, colourAt, addressAt, bitAt, readAt, refusedPoint, reading, readingOf, answerOf, Stands, Standing}
-use Rattle.reader.specs.Looking.{looking, seen, Seeable}
+use Rattle.reader.specs.Looking.{looking, seen, Seeable, lookNumber}
 use Rattle.reader.specs.declared.Display.{Display}
 use Rattle.reader.specs.declared.Look.{Look}
 use Rattle.reader.specs.declared.Look.the-variants.{At, Nowhere}
@@ -99,17 +99,40 @@ pub record Given (m : ℕ) (d : Display) (v : ScreenValues) (n : ℕ) : Type 0 w
   pub rotation : d .rotation < 4
   pub fit : valuesFit v ≡ true
 
+look-by : (depth : ℕ) (w : Place) (k : ℕ) (t : Bool) → eqb k 0 ≡ t → lookNumber (cond t (At (addressAt depth w) (bitAt depth w)) (Nowhere k)) ≡ k
+unfolding lookNumber
+look-by depth w k true e = sym (eqb-true k 0 e)
+look-by depth w k false e = refl
+
 module _ (m : ℕ) (d : Display) (v : ScreenValues) (p q n : ℕ) where
   -- refused by the first number
   refuses : (k : ℕ) → 0 < k → k ≡ firstOf (readRows m d v p q n) → Nowhere k ≡ looking m d v p q n
   unfolding looking
   refuses k h e = rw (← e) (rw (ne-eqb k 0 (λ z. omega arith)) refl)
 
+  -- the number of the look is the table's
+  pub look-number : lookNumber (looking m d v p q n) ≡ firstOf (readRows m d v p q n)
+  unfolding looking
+  look-number = look-by (d .depth) (lookedAt d v p q) (firstOf (readRows m d v p q n)) (eqb (firstOf (readRows m d v p q n)) 0) refl
+
   -- one of the first eight fails: its number is the table's
-  pub eight-refuse : (k : ℕ) → 0 < k → k ≡ firstOf (take 8 (readRows m d v p q n)) → k ≡ firstOf (readRows m d v p q n)
+  eight-refuse : (k : ℕ) → 0 < k → k ≡ firstOf (take 8 (readRows m d v p q n)) → k ≡ firstOf (readRows m d v p q n)
   eight-refuse k h e =
       let rows = readRows m d v p q n in
       e ∙ sym (first-part (take 8 rows) (drop 8 rows) (omega arith)) ∙ ap firstOf (take-append-drop 8 rows)
+
+  -- none of the table fails, so none of the eight
+  pub eight-pass : firstOf (readRows m d v p q n) ≡ 0 → firstOf (take 8 (readRows m d v p q n)) ≡ 0
+  eight-pass none = by (eqb first 0) refl
+    where
+      first : ℕ
+      first = firstOf (take 8 (readRows m d v p q n))
+
+      by : (t : Bool) → eqb first 0 ≡ t → first ≡ 0
+      by true e = eqb-true first 0 e
+      by false e =
+          let some : 0 < first = omega (arith, eqb-false first 0 e) in
+          absurd (omega (arith, eight-refuse first some refl))
 
   pub given-refused : (k : ℕ) → 0 < k → k ≡ firstOf (take 8 (readRows m d v p q n)) → Nowhere k ≡ looking m d v p q n
   given-refused k h e = refuses k h (eight-refuse k h e)

@@ -18,7 +18,7 @@ use Rattle.reader.specs.Read.{Reading, lookedAt, dwordInside, readRows, 
 use Rattle.reader.specs.Line.{pointsOf, leftmost, lineNumber, lineAfter, pointRows, lineRows, LineReads}
 use Rattle.reader.specs.Along.{Walkable, allInside, coloursFrom}
 use Rattle.reader.specs.declared.Display.{Display}
-use Rattle.reader.proofs.Answer.{numbered, number-is, reading-is, eight-refuse, pass, given, last}
+use Rattle.reader.proofs.Answer.{numbered, number-is, reading-is, pass, given, last}
 
 -- ---- points from left to right
 -- the leftmost number is the first of the points' rows
@@ -139,11 +139,11 @@ module _ (m : ℕ) (d : Display) (v : ScreenValues) (q : ℕ) (memory old : List
   refused-line : (k : ℕ) → 0 < k → k ≡ numberOf → (k ≡ numberOf) × (old ≡ lineAfter m d v q memory old)
   refused-line k h e = (e, sym (buffer-kept (omega arith)))
 
-  -- one of the first eight checks fails at column 0
-  pub line-refused : (k : ℕ) → 0 < k → k ≡ firstOf (take 8 (readRows m d v 0 q (length memory)))
+  -- column 0 is refused
+  pub line-refused : (k : ℕ) → 0 < k → k ≡ firstOf (readRows m d v 0 q (length memory))
       → (k ≡ lineNumber m d v q memory (length old)) × (old ≡ lineAfter m d v q memory old)
   line-refused k h e =
-      let first : k ≡ reading m d v 0 q memory .number = eight-refuse m d v 0 q (length memory) k h e ∙ sym (number-is m d v 0 q memory) in
+      let first : k ≡ reading m d v 0 q memory .number = e ∙ sym (number-is m d v 0 q memory) in
       let leftmost-is = first-refused (max 1 (d .width)) (pointsOf m d v q memory) (omega arith) (omega arith) in
       refused-line k h (first ∙ sym leftmost-is ∙ sym (number-refused m d v q memory (length old) (omega arith)))
 

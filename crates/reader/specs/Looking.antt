@@ -33,3 +33,8 @@ seen depth memory (Nowhere k) = Refused k
 unfoldable pub Seeable : ℕ → List ℕ → Look → Type 0
 Seeable depth memory (At a b) = (isDepth depth ≡ true) × (a + max 1 (depth / 8) ≤ length memory) × (b ≤ 7) × (min depth 8 ≤ b + 1)
 Seeable depth memory (Nowhere k) = Unit {0}
+
+-- the number of a look: 0 where it is refused nothing
+unfoldable pub lookNumber : Look → ℕ
+lookNumber (At a b) = 0
+lookNumber (Nowhere k) = k

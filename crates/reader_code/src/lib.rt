@@ -43,7 +43,7 @@ pub fn display_of(s: Screen) -> Display
 const GIVEN_CHECKS: [u32; 8] = [18, 1, 2, 3, 4, 5, 21, 24];
 
 // The first of these that fails; 0 for none.
-pub fn first_fault(size: u64, d: Display, values: ScreenValues, p: u32, q: u32, lent: u64) -> u32
+fn first_fault(size: u64, d: Display, values: ScreenValues, p: u32, q: u32, lent: u64) -> u32
     ensures { λ r. ⌜ r ≡ firstOf (take 8 (readRows size d values p q lent)) ⌝ }
 {
     let view_width = screen_code::view_width(d.rotation, d.width, d.height);

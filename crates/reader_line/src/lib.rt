@@ -10,8 +10,10 @@ ghost use Rattle.pixel.specs.Pixel.{storedPixel};
 ghost use Rattle.screen.specs.Screen.{memorySize};
 ghost use Rattle.view.specs.Steps.{windowColumns};
 ghost use Rattle.reader.specs.Line.{lineNumber, lineAfter};
+ghost use Rattle.reader.specs.Looking.{looking, lookNumber};
 ghost use Rattle.reader.specs.Along.{Walkable, OneSide, allInside, coloursFrom, stepInside, stepColour, Near, Readable, Fillable, cellBytes, beside};
 use reader::Display;
+use reader::Look;
 use screen::ScreenValues;
 use view::Columns;
 use view::Steps;
@@ -158,9 +160,21 @@ fn fill_line(d: Display, values: ScreenValues, q: u32, c: Columns, memory: &[u8]
     fill_part(d, values, q, c.to, d.width, memory, line);
 }
 
-// What panel line q shows in a memory of so many bytes: 0, and the line is filled, a colour for each panel column; or the first refusal number, and
-// it is as it was. The checks are made once, the window's columns found once, and the walk goes by steps.
-pub fn read_line_in(
+// The number of a look: 0 where it is refused nothing.
+fn look_number(at: Look) -> u32
+    ensures { λ r. ⌜ r ≡ lookNumber at ⌝ }
+{
+    match at {
+        Look::Nowhere(n) => n,
+        Look::At(address, bit) => 0,
+    }
+}
+
+// What panel line q shows in a memory of so many bytes, from where the point reader looks for its column 0: 0, and the line is filled, a colour for
+// each panel column; or the first refusal number, and it is as it was. All checks but 25 are those of column 0; the window's columns are found
+// once, and the walk goes by steps.
+pub fn read_line_from(
+    at: Look,
     size: u64,
     d: Display,
     values: ScreenValues,
@@ -168,10 +182,11 @@ pub fn read_line_in(
     memory: &[u8],
     line: &mut [u16],
 ) -> u32
+    requires { ⌜ at ≡ looking size d values 0 q (length (now memory)) ⌝ }
     ensures { λ r. ⌜ r ≡ lineNumber size d values q (now (memory .entry)) (length (now (line .entry))) ⌝ }
     ensures { λ _. ⌜ now (line .exit) ≡ lineAfter size d values q (now (memory .entry)) (now (line .entry)) ⌝ }
 {
-    let n = reader_code::first_fault(size, d, values, 0, q, memory.len() as u64);
+    let n = look_number(at);
     if n != 0 {
         return n;
     }
@@ -186,6 +201,22 @@ pub fn read_line_in(
     }
     fill_line(d, values, q, c, memory, line);
     0
+}
+
+// What panel line q shows in a memory of so many bytes.
+pub fn read_line_in(
+    size: u64,
+    d: Display,
+    values: ScreenValues,
+    q: u32,
+    memory: &[u8],
+    line: &mut [u16],
+) -> u32
+    ensures { λ r. ⌜ r ≡ lineNumber size d values q (now (memory .entry)) (length (now (line .entry))) ⌝ }
+    ensures { λ _. ⌜ now (line .exit) ≡ lineAfter size d values q (now (memory .entry)) (now (line .entry)) ⌝ }
+{
+    let at = reader_code::look_for(size, d, values, 0, q, memory.len() as u64);
+    read_line_from(at, size, d, values, q, memory, line)
 }
 
 // The same in the S1D13A05's memory.

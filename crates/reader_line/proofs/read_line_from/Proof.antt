@@ -6,19 +6,29 @@ use borrow.Author.Needs.{needs}
 use borrow.Author.Tests.{eqb-true, eqb-false, not-true, not-false}
 use Rattle.record.specs.Checks.{firstOf}
 use Rattle.reader.specs.Read.{readRows}
+use Rattle.reader.specs.Looking.{lookNumber}
+use Rattle.reader.proofs.Answer.{look-number, eight-pass}
 use Rattle.reader.proofs.Line.{line-refused, walkable, sized, line-outside, line-short, line-filled}
-use Rattle.reader_line.proofs.read_line_in.Statement.{statement}
-use Rattle.reader_line.proofs.read_line_in.Tie as tie
+use Rattle.reader_line.proofs.read_line_from.Statement.{statement}
+use Rattle.reader_line.proofs.read_line_from.Tie as tie
 
--- past the checks of what is given none of them fails
+-- the number is that of column 0
+column-0 : (c : tie.After-look-number) → let a = c .before .before .before .args in c .look-number .result ≡ firstOf (readRows (a .size) (a .d) (a .values) 0 (a .q) (length (a .memory .now)))
+column-0 c =
+    let a = c .before .before .before .args in
+    c .look-number .ensures ∙ ap lookNumber (c .before .before .before .pre) ∙ look-number (a .size) (a .d) (a .values) 0 (a .q) (length (a .memory .now))
+
+-- where it is 0, none of the checks of what is given fails
 none-fails : (c : tie.Else1) → let a = c .before .before .before .before .args in firstOf (take 8 (readRows (a .size) (a .d) (a .values) 0 (a .q) (length (a .memory .now)))) ≡ 0
-none-fails c = sym (c .before .first-fault .ensures) ∙ c .if1 .left
+none-fails c =
+    let a = c .before .before .before .before .args in
+    eight-pass (a .size) (a .d) (a .values) 0 (a .q) (length (a .memory .now)) (sym (column-0 (c .before)) ∙ c .if1 .left)
 
-first-fault-requires : tie.Need-first-fault-requires
-first-fault-requires c κs = search needs
+look-number-requires : tie.Need-look-number-requires
+look-number-requires c κs = search needs
 
 returns : tie.Need-returns
-returns c = line-refused _ _ _ _ _ _ _ (omega (arith, c .if1 .taken)) (c .before .first-fault .ensures)
+returns c = line-refused _ _ _ _ _ _ _ (omega (arith, c .if1 .taken)) (column-0 (c .before))
 
 window-columns-requires : tie.Need-window-columns-requires
 window-columns-requires c κs = search needs
@@ -63,11 +73,11 @@ returns-4 c =
     let done = line-filled _ _ _ _ _ _ (none-fails (asked .before .before)) all (eqb-true _ _ (not-false _ (filled .before .before .if3 .left))) in
     (done .0, filled .fill-line .ensures ∙ done .1)
 
-pub read-line-in-spec : {M : Type 1} → statement M
-read-line-in-spec =
+pub read-line-from-spec : {M : Type 1} → statement M
+read-line-from-spec =
     tie.close
     (tie.spec
-    first-fault-requires
+    look-number-requires
     returns
     window-columns-requires
     is-line-inside-requires
