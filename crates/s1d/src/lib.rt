@@ -117,6 +117,45 @@ pub extern "C" fn s1d_read_point(
     answers_code::point_of(reader_code::see(depth, memory, at))
 }
 
+// Fills the line with what panel line q shows in a memory of so many bytes, for both chips.
+fn line_in(
+    depth: u32,
+    rotation: u32,
+    flag: u32,
+    width: u32,
+    height: u32,
+    values: &[u32; 6],
+    q: u32,
+    size: u64,
+    memory: &[u8],
+    line: &mut [u16],
+) -> u32
+    ensures { λ r. ⌜ r ≡ lineNumber size (displayWith depth rotation flag width height) (valuesWith (now (values .entry))) q (now (memory .entry)) (length (now (line .entry))) ⌝ }
+    ensures { λ r. ⌜ now (line .exit) ≡ lineAfter size (displayWith depth rotation flag width height) (valuesWith (now (values .entry))) q (now (memory .entry)) (now (line .entry)) ⌝ }
+{
+    let at = look_in(
+        depth,
+        rotation,
+        flag,
+        width,
+        height,
+        values,
+        0,
+        q,
+        memory.len() as u64,
+        size,
+    );
+    let d = Display {
+        depth,
+        rotation,
+        flag,
+        width,
+        height,
+    };
+    let v = screen_values::values_given(*values);
+    reader_line::read_line_from(at, size, d, v, q, memory, line)
+}
+
 // Fills the line with what panel line q shows, a colour for each panel column.
 #[no_mangle]
 pub extern "C" fn s1d_read_line(
@@ -133,15 +172,19 @@ pub extern "C" fn s1d_read_line(
     ensures { λ r. ⌜ r ≡ lineNumber memorySize (displayWith depth rotation flag width height) (valuesWith (now (values .entry))) q (now (memory .entry)) (length (now (line .entry))) ⌝ }
     ensures { λ r. ⌜ now (line .exit) ≡ lineAfter memorySize (displayWith depth rotation flag width height) (valuesWith (now (values .entry))) q (now (memory .entry)) (now (line .entry)) ⌝ }
 {
-    let d = Display {
+    let size = 262144u64;
+    line_in(
         depth,
         rotation,
         flag,
         width,
         height,
-    };
-    let v = screen_values::values_given(*values);
-    reader_line::read_line(d, v, q, memory, line)
+        values,
+        q,
+        size,
+        memory,
+        line,
+    )
 }
 
 // Compiles, then plays the stream.
@@ -263,15 +306,19 @@ pub extern "C" fn s1d06_read_line(
     ensures { λ r. ⌜ r ≡ lineNumber olderMemory (displayWith depth rotation flag width height) (valuesWith (now (values .entry))) q (now (memory .entry)) (length (now (line .entry))) ⌝ }
     ensures { λ r. ⌜ now (line .exit) ≡ lineAfter olderMemory (displayWith depth rotation flag width height) (valuesWith (now (values .entry))) q (now (memory .entry)) (now (line .entry)) ⌝ }
 {
-    let d = Display {
+    let size = 81920u64;
+    line_in(
         depth,
         rotation,
         flag,
         width,
         height,
-    };
-    let v = screen_values::values_given(*values);
-    older_code::read_line(d, v, q, memory, line)
+        values,
+        q,
+        size,
+        memory,
+        line,
+    )
 }
 
 // A ring without a sample.
