@@ -115,8 +115,8 @@ pub record LineShown (m : ℕ) (d : Display) (v : ScreenValues) (memory : List �
 -- Beside demand 3 (02, i): so at every panel line, given playing's six values and the memory it left
 abbrev pub Demand3Line : Type 0
 Demand3Line =
-    (t : Task) (buffer memory line : List ℕ) (q : ℕ) → InBytes t → AllBelow 256 memory
-    → length memory ≡ memorySize → compiling memorySize t (length buffer) .number ≡ 0
+    (t : Task) (buffer memory line : List ℕ) (q : ℕ) → InBytes t → AllBelow 256 memory → length memory ≡ memorySize
+    → compiling memorySize t (length buffer) .number ≡ 0
     → q < screenIn t .height → length line ≡ screenIn t .width
     → LineShown memorySize (displayGiven t buffer) (playing memorySize (streamGiven t buffer) memory .values)
     (played memorySize (streamGiven t buffer) memory) (screenIn t) (sheetAfter memorySize t memory) q line
