@@ -1,5 +1,5 @@
 -- 01's cases S1 to S9 and B1 to B3 (01, "Cases"), those of line lengths (02, c), of the S1D13706 (02, d), of where a point's pixel
--- stands (02, e), of the long form (02, g), and of patterns and key colours (02, h) as one list.
+-- stands (02, e), of the long form (02, g), of patterns and key colours (02, h), and of panel lines (02, i) as one list.
 use Prim.Native.Nat.{ℕ}
 use mathlib.Core.List.{List, [], _∷_, _++_}
 use lib.ListN.{take, drop, replicate}
@@ -11,6 +11,7 @@ use Rattle.screen.specs.Cases.{Case, case, screenCases, lineCases, lined, plain
 use Rattle.screen.specs.Screen.{memorySize, fieldsOf}
 use Rattle.screen.specs.Values.{valuesOf}
 use Rattle.reader.specs.Read.{displayOf, lookedAt, addressAt, bitAt}
+use Rattle.reader.specs.Line.{lineNumber, lineAfter}
 use Rattle.command.specs.Command.{commandBytes}
 use Rattle.command.specs.Task.{shortForm, longForm, task, commandsIn}
 use Rattle.compiler.specs.Compile.{compiling, streamOf}
@@ -214,5 +215,23 @@ pointCases =
     ∷ standsAt (plain 2 0 1024 1024 0) 1023 1023 0x3FFFF 1
     ∷ []
 
+-- B2's or B3's screen at a rotation, played on a memory of eight bytes, and read as a panel line: the number, then what a buffer of eight nines holds
+abbrev readAs : ℕ → ℕ → ℕ → List ℕ
+readAs rotation from to =
+    let screen = plain 8 rotation 8 1 0 in
+    let s = fieldsOf screen in
+    let line : List ℕ = 1 ∷ 2 ∷ 3 ∷ 4 ∷ 5 ∷ 6 ∷ 7 ∷ 8 ∷ [] in
+    let memory = applied newChip (records screen (command 1 0xC to 0 7 1 from 0 0)) line in
+    lineNumber 8 (displayOf s) (valuesOf s) 0 memory 8 ∷ lineAfter 8 (displayOf s) (valuesOf s) 0 memory (replicate 8 9)
+
+unfoldable pub readCases : List Case
+readCases =
+    -- B2 and B3: the line that the paper has; and the same turned by 180 degrees
+    case (readAs 0 0 1) (0 ∷ 1 ∷ 1 ∷ 2 ∷ 3 ∷ 4 ∷ 5 ∷ 6 ∷ 7 ∷ [])
+    ∷ case (readAs 0 1 0) (0 ∷ 2 ∷ 3 ∷ 4 ∷ 5 ∷ 6 ∷ 7 ∷ 8 ∷ 8 ∷ [])
+    ∷ case (readAs 2 0 1) (0 ∷ 7 ∷ 6 ∷ 5 ∷ 4 ∷ 3 ∷ 2 ∷ 1 ∷ 1 ∷ [])
+    ∷ case (readAs 2 1 0) (0 ∷ 8 ∷ 8 ∷ 7 ∷ 6 ∷ 5 ∷ 4 ∷ 3 ∷ 2 ∷ [])
+    ∷ []
+
 unfoldable pub cases : List Case
-cases = screenCases ++ lineCases ++ drawCases ++ patternCases ++ exampleCases ++ olderCases ++ pointCases
+cases = screenCases ++ lineCases ++ drawCases ++ patternCases ++ exampleCases ++ olderCases ++ pointCases ++ readCases
