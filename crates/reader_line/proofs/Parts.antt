@@ -5,7 +5,7 @@ use mathlib.Core.List.{List, [], _∷_, _++_, append-nil}
 use mathlib.Core.Bool.{true, _&&_}
 use native.Mathlib.Nat.{sub-zero, zero-add}
 use native.Mathlib.Omega.{arith}
-use lib.ListN.{length, take, drop, length-append, length-take, length-drop, drop-of-length-le}
+use lib.ListN.{length, length-append, drop-of-length-le}
 use lib.Seq.{sets, length-sets}
 use borrow.Rule.Slice.PartMut.{putMid}
 use Rattle.record.proofs.Choice.{and-left, and-right}
@@ -27,9 +27,6 @@ unfolding coloursFrom
 length-colours d v q memory a n = length-tabulate n _
 
 -- the columns from a up to b
-pub part-length : (l : List ℕ) (a b : ℕ) → a ≤ b → b ≤ length l → length (take (b - a) (drop a l)) ≡ b - a
-part-length l a b h g = simp (length-take, length-drop) (omega arith)
-
 pub part-stored : (l new colours : List ℕ) (a b : ℕ) → a ≤ b → b ≤ length l → length colours ≡ b - a → new ≡ colours → putMid a (b - a) l new ≡ sets l a colours
 part-stored l new colours a b h g len e = ap (λ (x : List ℕ). putMid a (b - a) l x) e ∙ part-put l a b colours h g len
 

@@ -1,9 +1,10 @@
-use Prim.Native.Nat.{ℕ, _-_}
+use Prim.Native.Nat.{_-_}
 use mathlib.Core.Path.{ap, _∙_}
 use native.Mathlib.Omega.{arith}
 use borrow.Author.Needs.{needs}
 use Rattle.reader.specs.Along.{coloursFrom}
-use Rattle.reader_line.proofs.Parts.{length-colours, part-length, part-stored}
+use Rattle.reader_cells.proofs.Loop.{part-length}
+use Rattle.reader_line.proofs.Parts.{length-colours, part-stored}
 use Rattle.reader_line.proofs.fill_part.Statement.{statement}
 use Rattle.reader_line.proofs.fill_part.Tie as tie
 

@@ -1,7 +1,6 @@
 use Rattle.reader.proofs.Along.{near, ends-inside}
 use Rattle.reader.proofs.Line.{inside-none}
 use native.Mathlib.Omega.{arith}
-use mathlib.Core.Path.{_∙_}
 use Rattle.reader.specs.Along.{Near}
 use Prim.Native.Nat.{_-_}
 use borrow.Author.Needs.{needs}
