@@ -527,6 +527,9 @@ fn main() {
         values: [0, 64, 0, 0, 0, 0],
     };
     timing.panel("read 1,024 × 1,024 points", &settings);
+    let values = [0, 64, 0, 32, 16 | 47 << 16, 256 | 767 << 16];
+    let windowed = Settings { flag: 1, values, ..settings };
+    timing.panel("read 1,024 × 1,024 points, window", &windowed);
     let turned = Settings {
         rotation: 1,
         flag: 1,
@@ -535,6 +538,7 @@ fn main() {
     };
     timing.panel("read 1,024 × 1,024 points, 90 degrees, window", &turned);
     timing.lines("read 1,024 lines of 1,024 points", &settings);
+    timing.lines("read 1,024 lines of 1,024 points, window", &windowed);
     timing.lines("read 1,024 lines of 1,024 points, 90 degrees, window", &turned);
     let back = Settings { rotation: 2, values: [65_535, 64, 0, 0, 0, 0], ..settings };
     timing.lines("read 1,024 lines of 1,024 points, 180 degrees", &back);
