@@ -1,10 +1,10 @@
 -- Pixels side by side, in cells of whole bytes, are those that the steps come to.
-use Prim.Native.Nat.{ℕ, suc, _+_, _-_, _*_, _/_, _%_, _≤_, _<_, min, max}
+use Prim.Native.Nat.{ℕ, zero, suc, _+_, _-_, _*_, _/_, _%_, _≤_, _<_, min, max}
 use mathlib.Core.Path.{_≡_, refl, sym, ap, _∙_}
 use mathlib.Core.List.{List}
 use mathlib.Core.Logic.{⊎-elim}
 use mathlib.Core.Bool.{Bool, true, false, cond}
-use native.Mathlib.Nat.{div-add-mod, le-div-iff-mul-le, mod-lt, mul-comm, mul-div-cancel, mul-le-mul-right, suc-mul}
+use native.Mathlib.Nat.{div-add-mod, le-div-iff-mul-le, mod-lt, mod-one, mul-comm, mul-div-cancel, mul-le-mul-right, suc-mul}
 use native.Mathlib.Omega.{arith}
 use lib.Dec.{eqb}
 use borrow.Author.Tests.{eqb-true}
@@ -13,7 +13,7 @@ use Rattle.record.proofs.Choice.{and-left, and-right}
 use Rattle.record.proofs.Lists.{tabulate-below}
 use Rattle.pixel.specs.Depth.{isDepth}
 use Rattle.pixel.specs.Pixel.{storedPixel}
-use Rattle.pixel.proofs.Depth.{byte-depth, depth, depth-pos, factor-le, factor-pos}
+use Rattle.pixel.proofs.Depth.{byte-depth, depth, depth-pos, factor-le, factor-pos, left}
 use Rattle.view.specs.Steps.{bitsAfter}
 use Rattle.view.specs.declared.Steps.{Steps}
 use Rattle.reader.specs.Along.{stepColour, Fillable, cellPixels, cellBytes, cellAt, cellColour, cellsColour, Celled, beside}
@@ -23,17 +23,21 @@ pub record Cell (d : ℕ) : Type 0 where
   pub bits : cellPixels d * d ≡ 8 * cellBytes d
   pub tight : 8 * cellBytes d < 8 + d
 
+-- as many pixels as a byte has, where they divide it
+pixels-of : (d e : ℕ) → isDepth d ≡ true → e * d ≡ 8 → cellPixels d ≡ e
+pixels-of d e deep h =
+    let pixels : 8 / d ≡ e = ap (λ (n : ℕ). n / d) (sym h) ∙ mul-div-cancel e (depth-pos d deep) in
+    let some : 0 < e = factor-pos d e 7 (mul-comm d e ∙ h) in
+    ap (max 1) pixels ∙ omega arith
+
 pub cell : (d : ℕ) → isDepth d ≡ true → Cell d
 cell d deep = ⊎-elim (λ e. rw e (record { bits = refl; tight = omega arith })) narrow (depth d deep .narrow)
   where
     narrow : (e : ℕ) × (e * d ≡ 8) → Cell d
     narrow (e, h) =
         let small : d ≤ 8 = factor-le e d 7 h in
-        let pixels : 8 / d ≡ e = ap (λ (n : ℕ). n / d) (sym h) ∙ mul-div-cancel e (depth-pos d deep) in
-        let some : 0 < e = factor-pos d e 7 (mul-comm d e ∙ h) in
-        let of : cellPixels d ≡ e = ap (max 1) pixels ∙ omega arith in
         let byte : cellBytes d ≡ 1 = omega arith in
-        record { bits = ap (λ (n : ℕ). n * d) of ∙ h ∙ omega (arith, byte); tight = omega (arith, byte, depth-pos d deep) }
+        record { bits = ap (λ (n : ℕ). n * d) (pixels-of d e deep h) ∙ h ∙ omega (arith, byte); tight = omega (arith, byte, depth-pos d deep) }
 
 -- at depth 16 it is a pixel, else a byte
 pub wide-cell : (d : ℕ) → d ≡ 16 → (1 ≡ cellPixels d) × (2 ≡ cellBytes d)
@@ -46,6 +50,17 @@ byte-cell d deep h =
     let some : 0 < d = depth-pos d deep in
     let one : 1 ≤ 8 / d = le-div-iff-mul-le some .1 (omega arith) in
     (some, (omega arith, omega arith))
+
+-- pixels of whole bytes are whole cells
+pub whole-cells : (d n : ℕ) → isDepth d ≡ true → n * d % 8 ≡ 0 → n % cellPixels d ≡ 0
+whole-cells d n deep h = ⊎-elim (λ e. rw e (mod-one n)) narrow (depth d deep .narrow)
+  where
+    nothing : (x y : ℕ) → 0 < y → x * y ≡ 0 → x ≡ 0
+    nothing zero y some e = refl
+    nothing (suc x) y some e = absurd (omega (arith, suc-mul x y))
+
+    narrow : (e : ℕ) × (e * d ≡ 8) → n % cellPixels d ≡ 0
+    narrow (e, g) = ap (λ (x : ℕ). n % x) (pixels-of d e deep g) ∙ nothing (n % e) d (depth-pos d deep) (sym (left n d e 7 g) ∙ h)
 
 -- the t-th pixel is one of n, from either side
 pub place-below : (back : Bool) (n t : ℕ) → t < n → cond back (n - 1 - t) t < n
@@ -104,10 +119,10 @@ module _ (d m : ℕ) (s : Steps) (n : ℕ) (f : Fillable d m s n) (b : beside d 
   by-pixels = eqb-true (s .step) d (and-left _ _ b)
 
   whole : n % cellPixels d ≡ 0
-  whole = eqb-true (n % cellPixels d) 0 (and-left _ _ (and-right (eqb (s .step) d) _ b))
+  whole = whole-cells d n (f .deep) (eqb-true (n * d % 8) 0 (and-left _ _ (and-right (eqb (s .step) d) _ b)))
 
   at-edge : first % 8 ≡ cond (s .back) (8 * cellBytes d - d) 0
-  at-edge = eqb-true (first % 8) _ (and-right (eqb (n % cellPixels d) 0) _ (and-right (eqb (s .step) d) _ b))
+  at-edge = eqb-true (first % 8) _ (and-right (eqb (n * d % 8) 0) _ (and-right (eqb (s .step) d) _ b))
 
   -- byte and bit of pixel j
   module _ (j : ℕ) (h : j < n) where

@@ -89,8 +89,8 @@ pub record Celled (depth m : ℕ) (back : Bool) (a n : ℕ) : Type 0 where
   pub far : (i : ℕ) → i < n / cellPixels depth → i * cellBytes depth ≤ cond back a m
   pub each : (i : ℕ) → i < n / cellPixels depth → cellAt depth back a i + cellBytes depth ≤ m
 
--- the steps go by pixels, from the first of a cell, or back from the last, over n pixels in whole cells
+-- the steps go by pixels, from the first of a cell, or back from the last, over n pixels of whole bytes
 abbrev pub beside : ℕ → Steps → ℕ → Bool
 beside depth s n =
     eqb (s .step) depth
-    && (eqb (n % cellPixels depth) 0 && eqb (bitsAfter s 0 % 8) (cond (s .back) (8 * cellBytes depth - depth) 0))
+    && (eqb (n * depth % 8) 0 && eqb (bitsAfter s 0 % 8) (cond (s .back) (8 * cellBytes depth - depth) 0))

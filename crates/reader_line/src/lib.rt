@@ -89,13 +89,13 @@ fn edge_bits(depth: u32, back: bool) -> u64
     0
 }
 
-// Whether n pixels stand side by side in whole cells, as at 0 and 180 degrees they always do.
+// Whether n pixels stand side by side and are whole bytes, as at 0 and 180 degrees they always are.
 fn is_beside(depth: u32, s: Steps, n: usize) -> bool
-    requires { ⌜ isDepth depth ≡ true ⌝ }
+    requires { ⌜ (isDepth depth ≡ true) × (n ≤ 4294967296) ⌝ }
     ensures { λ r. ⌜ r ≡ beside depth s n ⌝ }
 {
     let bits = record_code::minus(s.ahead, s.behind);
-    let whole = n % reader_cells::cell_pixels(depth) == 0;
+    let whole = n as u64 * depth as u64 % 8 == 0;
     (s.step == depth as u64) & (whole & (bits % 8 == edge_bits(depth, s.back)))
 }
 
