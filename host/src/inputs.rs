@@ -961,18 +961,25 @@ pub fn point(rng: &mut Rng, memory: u64) -> (Settings, u32, u32) {
     }
     for _ in 0..rng.pick(&[0, 0, 0, 0, 1, 1, 2, 3]) {
         let number = match rng.below(8) {
-            0 => &mut settings.depth,
-            1 => &mut settings.rotation,
-            2 => &mut settings.flag,
-            3 => &mut settings.width,
-            4 => &mut settings.height,
-            5 => &mut settings.values[rng.below(6) as usize],
             6 => &mut p,
-            _ => &mut q,
+            7 => &mut q,
+            which => setting(rng, &mut settings, which),
         };
         *number = rng.near((*number).into()) as u32;
     }
     (settings, p, q)
+}
+
+/// One of the numbers that both readers are given: 0 to 4, or one of the six values.
+fn setting<'a>(rng: &mut Rng, settings: &'a mut Settings, which: u64) -> &'a mut u32 {
+    match which {
+        0 => &mut settings.depth,
+        1 => &mut settings.rotation,
+        2 => &mut settings.flag,
+        3 => &mut settings.width,
+        4 => &mut settings.height,
+        _ => &mut settings.values[rng.below(6) as usize],
+    }
 }
 
 /// Settings, values, a panel line and the length of a line buffer, on a chip with a memory of so many bytes:
@@ -1018,18 +1025,12 @@ pub fn line(rng: &mut Rng, memory: u64) -> (Settings, u32, usize) {
     }
 
     for _ in 0..rng.pick(&[0, 0, 0, 0, 0, 1, 1, 2, 3]) {
-        let number = match rng.below(8) {
-            0 => &mut settings.depth,
-            1 => &mut settings.rotation,
-            2 => &mut settings.flag,
-            3 => &mut settings.width,
-            4 => &mut settings.height,
-            5 => &mut settings.values[rng.below(6) as usize],
-            _ => {
-                q = rng.pick(&[settings.height, settings.height, settings.height - 1, u32::MAX]);
-                continue;
-            }
-        };
+        let which = rng.below(8);
+        if which > 5 {
+            q = rng.pick(&[settings.height, settings.height, settings.height - 1, u32::MAX]);
+            continue;
+        }
+        let number = setting(rng, &mut settings, which);
         *number = rng.near((*number).into()) as u32;
     }
     let room = line_room(rng, settings.width.min(4096) as usize);
