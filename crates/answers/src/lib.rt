@@ -1,4 +1,5 @@
 // What the C library gives back (include/s1d.h): numbers alone, the same for both chips.
+#![tactic(auto)]
 
 // What compiling gives back, and where the refused command stands in the list.
 #[repr(C)]

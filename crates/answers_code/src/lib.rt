@@ -1,4 +1,6 @@
 // The answers of compiling, playing, reading and drawing, of the ring and of the strip as the C library's structs of numbers.
+#![tactic(auto)]
+
 ghost use Rattle.std.specs.Prelude.{◌≡◌, ◌^◌, ◌<◌};
 ghost use Rattle.screen.specs.Narrow.{Narrow};
 ghost use Rattle.compiler.specs.Compile.{compiling_of};

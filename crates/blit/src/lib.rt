@@ -1,4 +1,5 @@
 // The blit engine: pixels one by one, line by line, in the direction named.
+#![tactic(auto)]
 
 // What a source pixel and a destination pixel make: the source, the two under a raster code, or the source unless it is a key colour.
 #[derive(Drop)]

@@ -1,4 +1,6 @@
 // The blit engine: fills, moves, pattern fills and host words over a lent memory, line by line.
+#![tactic(auto)]
+
 ghost use Rattle.std.specs.Prelude.{◌≡◌, false, [], ◌+◌, ◌*◌, ◌%◌, ◌≤◌, ◌<◌, max, length, get_or};
 ghost use Rattle.pixel.specs.Pixel.{get_pixel};
 ghost use Rattle.blit.specs.Blit.{given, memory as in_memory, pixels, chip_line, chip_blit, towards};

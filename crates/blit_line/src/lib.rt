@@ -1,4 +1,6 @@
 // One line of a blit: a source line copied, and a destination line, lent alone, drawn in the direction named.
+#![tactic(auto)]
+
 ghost use Rattle.std.specs.Prelude.{◌≡◌, cond, ◌+◌, ◌*◌, ◌≤◌, ◌<◌, eqb, length};
 ghost use Rattle.pixel.specs.Pixel.{get_pixel, put_pixel};
 ghost use Rattle.blit.specs.Job.{mix_of};

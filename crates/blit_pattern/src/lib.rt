@@ -1,4 +1,6 @@
 // Patterns: the rows of an 8 × 8 pattern, read from memory, and source lines that repeat them.
+#![tactic(auto)]
+
 ghost use Rattle.std.specs.Prelude.{◌≡◌, ◌+◌, ◌-◌, ◌*◌, ◌%◌, ◌≤◌, ◌<◌, max, length, get_or};
 ghost use Rattle.pixel.specs.Pixel.{get_pixel};
 ghost use Rattle.blit.specs.Blit.{pixels};

@@ -1,4 +1,6 @@
 // The chip model: registers, and playing a stream over a lent display memory.
+#![tactic(auto)]
+
 use screen::ScreenValues;
 
 // The blit registers 8000h, 8008h, 800Ch, 8010h, 8014h, 8018h, 801Ch, 8020h and 8024h.

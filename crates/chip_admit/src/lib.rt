@@ -1,4 +1,6 @@
 // The registers once a record is written, and admitting the records of a stream on registers and sizes alone.
+#![tactic(auto)]
+
 ghost use Rattle.std.specs.Prelude.{◌≡◌, false, cond, ◌+◌, ◌-◌, ◌/◌, ◌≤◌, length, [], ◌∷◌};
 ghost use Rattle.record.specs.Record.{records_from, records_of};
 ghost use Rattle.chip.specs.Register.{listed, fits, screen_after, blit_after};

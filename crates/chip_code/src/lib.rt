@@ -1,4 +1,6 @@
 // Playing a stream over a lent display memory: what each record does to it.
+#![tactic(auto)]
+
 ghost use Rattle.std.specs.Prelude.{◌≡◌, true, false, ◌/◌, ◌≤◌, length};
 ghost use Rattle.record.specs.Record.{records_from};
 ghost use Rattle.screen.specs.Screen.{memory_size};

@@ -1,4 +1,5 @@
 // The command record, and the register values of a command.
+#![tactic(auto)]
 
 // A command record's fields; (sx, sy) is a move's source. The last four, the key colour, a pattern's first pixel (px, py) and its address, are the
 // long form's.

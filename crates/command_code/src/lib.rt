@@ -1,4 +1,6 @@
 // The command record, and its refusals.
+#![tactic(auto)]
+
 ghost use Rattle.std.specs.Prelude.{◌≡◌, ◌≤◌, true, length, drop};
 ghost use Rattle.record.specs.Bytes.{byte_at, u16_at, u32_at, all_zero};
 ghost use Rattle.record.specs.Checks.{first_of};

@@ -1,4 +1,6 @@
 // Whether a command's lines share a byte with its pattern or its source, told by one of the lines.
+#![tactic(auto)]
+
 ghost use Rattle.std.specs.Prelude.{◌≡◌, ◌≤◌, ◌&&◌, ltb};
 ghost use Rattle.screen.specs.Image.{line_bytes};
 ghost use Rattle.command.specs.Command.{destination_of, source_of, rectangle_at, pattern_at, clashes};

@@ -1,4 +1,6 @@
 // The addresses of a command's rectangle, and its register values.
+#![tactic(auto)]
+
 ghost use Rattle.std.specs.Prelude.{◌≡◌, ◌+◌, ◌-◌, ◌*◌, ◌/◌, ◌≤◌, cond};
 ghost use Rattle.command.specs.Command.{by_operation, surface_of, address_of, destination_of, source_of};
 ghost use Rattle.command.specs.Values.{is_negative, last_column, last_line, command_value, pattern_value, source_value, destination_value, control_value, blit_values};

@@ -7,6 +7,8 @@
 // --long: LIST has records of 48 bytes. The word 13706 compiles for the older S1D13706 (a file of that name is ./13706, one called --long is ./--long), whose LIST is empty where it is left out or
 // `-`. WORDS: two bytes a word, low byte first, at most 262,144 words; none where it is left out or `-`. The stream: at most
 // 2,097,152 bytes, else 17. The buffers are on the stack.
+#![tactic(auto)]
+
 ghost use Rattle.std.specs.Prelude.{◌≡◌, length};
 ghost use Rattle.command.specs.Task.{task};
 ghost use Rattle.compiler.specs.Compile.{numbers_of};

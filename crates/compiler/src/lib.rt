@@ -1,4 +1,5 @@
 // Compiling a screen record, a command list and host words into a lent stream buffer.
+#![tactic(auto)]
 
 // The stream's length in bytes, depth, rotation and flag; or the refusal number and its place.
 #[derive(Drop)]

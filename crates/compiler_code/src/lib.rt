@@ -1,4 +1,6 @@
 // Compiling a screen record, a command list and host words into a lent stream buffer.
+#![tactic(auto)]
+
 ghost use Rattle.std.specs.Prelude.{◌≡◌, length};
 ghost use Rattle.screen.specs.Screen.{memory_size};
 ghost use Rattle.command.specs.Task.{task};

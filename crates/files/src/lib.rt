@@ -1,5 +1,7 @@
 // What the programs share: the files, words and numbers of their arguments, their buffers, and what they write. The contents of a file,
 // and whether it can be read or written, are the system's: a contract names them, and says what holds of them.
+#![tactic(auto)]
+
 ghost use Rattle.std.specs.Prelude.{◌≡◌, cond, ◌+◌, ◌≤◌, length, replicate};
 ghost use Rattle.files.specs.System.{YesOrNo, LoadedBytes, LoadedWords, LoadedMemory, GivenNumber};
 

@@ -1,4 +1,6 @@
 // Our factory font: ten digits of 8 by 8 pixels.
+#![tactic(auto)]
+
 ghost use Rattle.std.specs.Prelude.{◌≡◌};
 ghost use Rattle.font.specs.Factory.{factory_font};
 

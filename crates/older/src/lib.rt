@@ -1,2 +1,3 @@
 // The older units' S1D13706 (request d of document 02): its eighteen display registers, and compiling for it. It shares every type with
 // the S1D13A05.
+#![tactic(auto)]

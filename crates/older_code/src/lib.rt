@@ -1,4 +1,6 @@
 // The older units' S1D13706: compiling for it, its six values from eighteen bytes, its point reader and its line reader.
+#![tactic(auto)]
+
 ghost use Rattle.std.specs.Prelude.{◌≡◌, ◌≤◌, length};
 ghost use Rattle.std.proofs.lemmas.List.Edits.{sets};
 ghost use Rattle.record.specs.Checks.{first_of};

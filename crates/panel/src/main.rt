@@ -13,6 +13,8 @@
 // before the drawing; zeros where it is left out or `-`. VIEW: another screen record, whose panel is shown over the memory
 // that was drawn on SCREEN; SCREEN's own where it is left out or `-`. The stream: at most 2,097,152 bytes, else 17. The
 // buffers are on the stack.
+#![tactic(auto)]
+
 ghost use Rattle.std.specs.Prelude.{◌≤◌};
 
 use panel_show::Asked;

@@ -1,4 +1,6 @@
 // Draws a command list on a screen, and writes what a panel then shows to standard output: its picture, or one of its points.
+#![tactic(auto)]
+
 ghost use Rattle.std.specs.Prelude.{◌≡◌};
 ghost use Rattle.screen.specs.Screen.{memory_size};
 ghost use Rattle.command.specs.Task.{task};

@@ -1,6 +1,8 @@
 // Runs a script of worked examples from standard input (`stdin`, which says what its steps are): each is compiled and played,
 // and the register values and the panel points are held against the paper's. Writes each example's name, the lines that
 // differ, and the verdict; and at the end whether all was as the papers have it.
+#![tactic(auto)]
+
 use chip::Played;
 use compiler::Compiled;
 use libc::{STDIN_FILENO, STDOUT_FILENO};

@@ -1,1 +1,2 @@
 // The panel as a picture, and the line of one of its points.
+#![tactic(auto)]

@@ -1,4 +1,6 @@
 // Writes a picture, or what one point shows, to standard output.
+#![tactic(auto)]
+
 ghost use Rattle.files.specs.System.{YesOrNo};
 
 use reader::Display;

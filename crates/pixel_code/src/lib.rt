@@ -1,4 +1,6 @@
 // Pixels in memory, and raster codes.
+#![tactic(auto)]
+
 ghost use Rattle.std.specs.Prelude.{◌≡◌, true, ◌+◌, ◌-◌, ◌*◌, ◌/◌, ◌^◌, ◌≤◌, ◌<◌, min, max, length};
 ghost use Rattle.pixel.specs.Depth.{is_depth, per_dword};
 ghost use Rattle.pixel.specs.Pixel.{get_pixel, put_pixel, pixel_byte, pixel_bit, stored_pixel};

@@ -1,4 +1,5 @@
 // The point reader: what a panel point shows, and where that stands in memory.
+#![tactic(auto)]
 
 // What the panel is set to: depth, rotation, window flag, and its size.
 #[derive(Drop)]

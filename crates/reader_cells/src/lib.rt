@@ -1,4 +1,6 @@
 // Colours of pixels that stand side by side in memory, a cell of whole bytes at a time: a byte, at depth 16 two.
+#![tactic(auto)]
+
 ghost use Rattle.std.specs.Prelude.{◌≡◌, true, cond, ◌+◌, ◌-◌, ◌≤◌, ◌<◌, length};
 ghost use Rattle.record.specs.Lists.{tabulate};
 ghost use Rattle.pixel.specs.Depth.{is_depth};

@@ -1,4 +1,6 @@
 // The point reader: what a panel point shows, and where that stands in memory.
+#![tactic(auto)]
+
 ghost use Rattle.std.specs.Prelude.{◌≡◌, true, length, take};
 ghost use Rattle.record.specs.Checks.{first_of};
 ghost use Rattle.screen.specs.Screen.{memory_size};

@@ -1,4 +1,6 @@
 // Numbers and records in bytes: the stream record.
+#![tactic(auto)]
+
 // A stream record: a register number, or 10000h for a host data word, and a value.
 #[derive(Drop)]
 pub struct Record {

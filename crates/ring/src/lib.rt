@@ -1,4 +1,5 @@
 // The ring of hourly wear samples (request f of document 02): the last 512 hours, and what is told of them.
+#![tactic(auto)]
 
 // An hour stands in the slot of its sequence number modulo 512. Every value is a ring.
 #[repr(C)]

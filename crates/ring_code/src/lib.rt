@@ -1,4 +1,6 @@
 // The ring of wear samples: an empty one, taking a sample, and what it tells of an hour.
+#![tactic(auto)]
+
 ghost use Rattle.std.specs.Prelude.{◌≡◌, ◌+◌, ◌-◌, ◌≤◌, true, length, take, replicate};
 ghost use Rattle.std.proofs.lemmas.List.Edits.{sets};
 ghost use Rattle.ring.specs.Samples.{steps_to};

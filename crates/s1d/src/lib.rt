@@ -1,4 +1,6 @@
 // The C library: the functions of include/s1d.h.
+#![tactic(auto)]
+
 ghost use Rattle.std.specs.Prelude.{◌≡◌, length};
 ghost use Rattle.screen.specs.Screen.{memory_size};
 ghost use Rattle.command.specs.Task.{short_form, long_form, task};

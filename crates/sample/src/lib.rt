@@ -1,4 +1,5 @@
 // Samples as text: what a line of a samples file means.
+#![tactic(auto)]
 
 // What ends a run of letters: a space, a letter that is none, or a line end.
 #[derive(Drop)]

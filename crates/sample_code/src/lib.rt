@@ -1,4 +1,6 @@
 // What a line of a samples file means.
+#![tactic(auto)]
+
 ghost use Rattle.std.specs.Prelude.{◌≡◌, ◌≤◌, length, take, drop};
 ghost use Rattle.sample.specs.Line.{stops as stopsAt, before, behind, sample_with, line_means};
 

@@ -1,4 +1,5 @@
 // The screen record, and the six screen register values.
+#![tactic(auto)]
 
 // The small window: its image's base, its place in the view, its size, and its image's line length in pixels (0: the shown width).
 #[derive(Drop)]

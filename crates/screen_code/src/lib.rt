@@ -1,4 +1,6 @@
 // The screen record: its images, and the checks on it.
+#![tactic(auto)]
+
 ghost use Rattle.std.specs.Prelude.{◌≡◌, length};
 ghost use Rattle.record.specs.Checks.{first_of};
 ghost use Rattle.screen.specs.Image.{line_bytes, line_pixels, image_end};

@@ -1,4 +1,6 @@
 // The six screen register values of a screen.
+#![tactic(auto)]
+
 ghost use Rattle.std.specs.Prelude.{◌≡◌, ◌+◌, ◌-◌, ◌/◌, ◌<◌};
 ghost use Rattle.screen.specs.Image.{start_of};
 ghost use Rattle.screen.specs.Values.{window_x, window_y, origin_of, values_of, edges, six_values, values_with};

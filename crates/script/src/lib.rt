@@ -1,4 +1,5 @@
 // A script of worked examples: its lines, what each step leaves, and whether it is as the papers have it.
+#![tactic(auto)]
 
 // A line that is read as far as a number: the number as decimal and as hexadecimal, and the blanks passed.
 #[derive(Drop)]

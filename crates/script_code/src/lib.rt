@@ -1,4 +1,6 @@
 // What a script is made of: lines, the numbers in a line, and where they are stored.
+#![tactic(auto)]
+
 ghost use Rattle.std.specs.Prelude.{◌≡◌, ◌+◌, ◌^◌, ◌<◌, leb};
 ghost use Rattle.script.specs.Script.{line_end, number_at, number_put, scan_byte, number_of, fields_put, stored, words_put};
 

@@ -3,6 +3,8 @@
 //
 // The desk holds the screen record, from byte 32 on a command with room for the long form, at 80 how many commands there are (0 or 1), at 84
 // how many host words, and at 88 whether the list is in the long form.
+#![tactic(auto)]
+
 ghost use Rattle.std.specs.Prelude.{◌≡◌, ◌≤◌, length, replicate};
 ghost use Rattle.compiler.specs.Compile.{compiling_of};
 ghost use Rattle.script.specs.Steps.{form_on, desk_after, words_after, stream_patched, keeps, kept_after, memory_after, compiled_after, stream_after, played_after, memory_played};

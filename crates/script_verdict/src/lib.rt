@@ -1,4 +1,6 @@
 // Whether a step is as the papers have it, and what that says of an example and of all.
+#![tactic(auto)]
+
 ghost use Rattle.std.specs.Prelude.{◌≡◌};
 ghost use Rattle.compiler.specs.Compile.{compiling_of};
 ghost use Rattle.script.specs.Verdict.{is_answer, is_played, is_record, has_records, display_on, is_colour, is_point, same_bytes, is_setting, is_comment, holds, judged};

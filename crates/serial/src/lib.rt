@@ -1,4 +1,6 @@
 // A player that is fed a stream in small blocks (request a of document 02): its state between blocks, and its answers.
+#![tactic(auto)]
+
 use chip::{Chip, Registers};
 
 // What is kept between blocks, in plain numbers: every value is a state.

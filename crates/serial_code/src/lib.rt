@@ -1,4 +1,6 @@
 // A player that is fed a stream in small blocks, and ended.
+#![tactic(auto)]
+
 ghost use Rattle.std.specs.Prelude.{◌≡◌, cond, eqb, length};
 ghost use Rattle.record.specs.Record.{records_of};
 ghost use Rattle.screen.specs.Screen.{memory_size};

@@ -1,4 +1,6 @@
 // A player's state in its numbers, and a half-read record with a block behind it.
+#![tactic(auto)]
+
 ghost use Rattle.std.specs.Prelude.{◌≡◌, [], ◌++◌, ◌+◌, ◌≤◌, ◌<◌, min, length, take, replicate};
 ghost use Rattle.record.specs.Bytes.{byte_at, over};
 ghost use Rattle.screen.specs.Narrow.{Narrow};

@@ -1,4 +1,6 @@
 // A block that is data words of one line alone, taken in the player's own numbers.
+#![tactic(auto)]
+
 ghost use Rattle.std.specs.Prelude.{◌≡◌, true};
 ghost use Rattle.screen.specs.Screen.{memory_size};
 ghost use Rattle.serial.specs.State.{state_of, player_of};

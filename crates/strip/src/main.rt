@@ -8,6 +8,8 @@
 // spaces between them, at most 524,288 bytes; a line whose sample is refused, or that has none, is said on standard error, and left out.
 // HOURS: how many, 1 to 24. COLUMN: a column's width in pixels, 1 to 16. X, Y: the strip's upper left corner. BAR, BACKGROUND: colours.
 // SITE: a font of the site, 8 bytes for each digit from 0 on; for digits that it has not, and without it, our factory font is used.
+#![tactic(auto)]
+
 ghost use Rattle.std.specs.Prelude.{◌≡◌};
 ghost use Rattle.strip.specs.Short.{short_of};
 

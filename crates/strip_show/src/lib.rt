@@ -1,4 +1,6 @@
 // Draws the strip of a ring's last hours, and writes what the panel then shows to standard output.
+#![tactic(auto)]
+
 ghost use Rattle.std.specs.Prelude.{◌≡◌, length, replicate};
 ghost use Rattle.wear.specs.Strip.{strip_for};
 ghost use Rattle.font.specs.Factory.{factory_font};

@@ -1,4 +1,6 @@
 // Takes the samples of a text into a ring, and says on standard error which are refused, and why.
+#![tactic(auto)]
+
 ghost use Rattle.std.specs.Prelude.{◌≡◌, [], length, replicate};
 ghost use Rattle.ring.specs.Kept.{empty_ring, taking, ring_after};
 ghost use Rattle.sample.specs.Line.{line_means, with_line, lines_of, samples_of};

@@ -1,4 +1,5 @@
 // What the programs write and read: text, the line of a refusal, lines of hexadecimal, host words from bytes, and numbers.
+#![tactic(auto)]
 
 // Whether a text is a number, and which; 0 where it is none.
 #[derive(Drop)]

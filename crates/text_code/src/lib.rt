@@ -1,4 +1,6 @@
 // The lines of a refusal and of a panel point. A text that has no room in its buffer is cut.
+#![tactic(auto)]
+
 mod reasons;
 
 ghost use Rattle.std.specs.Prelude.{◌≡◌, ◌++◌};

@@ -1,4 +1,6 @@
 // The unit in two calls: draw a list, and say what a panel point then shows.
+#![tactic(auto)]
+
 ghost use Rattle.std.specs.Prelude.{◌≡◌, length};
 ghost use Rattle.screen.specs.Screen.{memory_size};
 ghost use Rattle.command.specs.Task.{task};

@@ -1,4 +1,5 @@
 // The chip's walk from its registers to a panel point.
+#![tactic(auto)]
 
 // A place that the walk comes to: the dword up − down, and the pixel in it.
 #[derive(Drop)]

@@ -1,4 +1,6 @@
 // The chip's walk from its registers to a panel point.
+#![tactic(auto)]
+
 ghost use Rattle.std.specs.Prelude.{◌≡◌, true, ◌&&◌, cond, eqb, ◌+◌, ◌*◌, ◌≤◌, ◌<◌, min};
 ghost use Rattle.pixel.specs.Depth.{is_depth};
 ghost use Rattle.screen.specs.Fields.{values_fit};

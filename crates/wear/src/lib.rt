@@ -1,4 +1,5 @@
 // The wear strip (request f of document 02): what a caller asks for, and the answers.
+#![tactic(auto)]
 
 // The hours shown, the screen's depth, the upper left corner, the column width, and the two colours.
 #[derive(Drop)]

@@ -1,4 +1,6 @@
 // The wear strip: the list and the host words that draw the last hours of a ring, and the newest number below them.
+#![tactic(auto)]
+
 ghost use Rattle.std.specs.Prelude.{◌≡◌, ◌≤◌, length};
 ghost use Rattle.record.specs.Lists.{AllBelow};
 ghost use Rattle.record.specs.Checks.{first_of};
