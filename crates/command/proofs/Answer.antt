@@ -2,7 +2,7 @@
 use Prim.Native.Nat.{ℕ, ◌<◌}
 use mathlib.Core.Path.{◌≡◌, refl, sym, ap, ◌∙◌}
 use mathlib.Core.List.{List, [], ◌∷◌}
-use mathlib.Core.Bool.{Bool, true, false, not, ◌&&◌, ◌||◌, cond, and_true}
+use mathlib.Core.Bool.{Bool, true, false, not, ◌&&◌, ◌||◌, cond, and-true}
 use native.Mathlib.Omega.{arith}
 use lib.Dec.{eqb, ltb, lit<}
 use borrow.Author.Tests.{eqb-true, eqb-false, eq-eqb, ne_eqb}
@@ -24,28 +24,28 @@ command_numbered m s left b c = (lit< tt, (lit< tt, (lit< tt, (lit< tt, (lit< tt
 module _ (c : Command) where
   pub fill_zero : c.operation ≡ 0 → (eqb c.raster 0 && (eqb c.sx 0 && eqb c.sy 0)) ≡ all_zero (must_be_zero c)
   unfolding must_be_zero all_zero
-  fill_zero e = sym (ap all_zero (by_fill c.operation _ _ _ _ _ _ e) ∙ (rw and_true))
+  fill_zero e = sym (ap all_zero (by_fill c.operation _ _ _ _ _ _ e) ∙ (rw and-true))
 
   pub move_zero : c.operation ≡ 1 → eqb c.colour 0 ≡ all_zero (must_be_zero c)
   unfolding must_be_zero all_zero
-  move_zero e = sym (ap all_zero (by_move c.operation _ _ _ _ _ _ e) ∙ (rw and_true))
+  move_zero e = sym (ap all_zero (by_move c.operation _ _ _ _ _ _ e) ∙ (rw and-true))
 
   pub write_zero : c.operation ≡ 2 → (eqb c.sx 0 && (eqb c.sy 0 && eqb c.colour 0)) ≡ all_zero (must_be_zero c)
   unfolding must_be_zero all_zero
-  write_zero e = sym (ap all_zero (by_write c.operation _ _ _ _ _ _ e) ∙ (rw and_true))
+  write_zero e = sym (ap all_zero (by_write c.operation _ _ _ _ _ _ e) ∙ (rw and-true))
 
   pub pattern_zero : c.operation ≡ 3 → (eqb c.sx 0 && (eqb c.sy 0 && (eqb c.colour 0 && eqb c.key 0))) ≡ all_zero (must_be_zero c)
   unfolding must_be_zero all_zero
-  pattern_zero e = sym (ap all_zero (by_pattern c.operation _ _ _ _ _ _ e) ∙ (rw and_true))
+  pattern_zero e = sym (ap all_zero (by_pattern c.operation _ _ _ _ _ _ e) ∙ (rw and-true))
 
   pub keyed_zero : c.operation ≡ 4 → (eqb c.raster 0 && (eqb c.sx 0 && (eqb c.sy 0 && eqb c.colour 0))) ≡ all_zero (must_be_zero c)
   unfolding must_be_zero all_zero
-  keyed_zero e = sym (ap all_zero (by_keyed c.operation _ _ _ _ _ _ e) ∙ (rw and_true))
+  keyed_zero e = sym (ap all_zero (by_keyed c.operation _ _ _ _ _ _ e) ∙ (rw and-true))
 
   pub other_zero : (c.operation ≡ 0 → ⊥) → (c.operation ≡ 1 → ⊥) → (c.operation ≡ 2 → ⊥) → (c.operation ≡ 3 → ⊥) → (c.operation ≡ 4 → ⊥)
       → (eqb c.raster 0 && (eqb c.colour 0 && (eqb c.px 0 && (eqb c.py 0 && eqb c.pattern 0)))) ≡ all_zero (must_be_zero c)
   unfolding must_be_zero all_zero
-  other_zero p0 p1 p2 p3 p4 = sym (ap all_zero (by_other c.operation _ _ _ _ _ _ p0 p1 p2 p3 p4) ∙ (rw and_true))
+  other_zero p0 p1 p2 p3 p4 = sym (ap all_zero (by_other c.operation _ _ _ _ _ _ p0 p1 p2 p3 p4) ∙ (rw and-true))
 
 -- all rows
 pub rows_are : (m : ℕ) (s : Screen) (left : ℕ) (b : List ℕ) (c : Command) (f p k : Bool) (w : ℕ) → f ≡ formed m s b c → p ≡ placed s c → k ≡ clashes s c → w ≡ words_taken s c

@@ -158,11 +158,11 @@ placed_by count f e d hf hd he = chosen (eqb f 0) (eqb d.number 0) (eqb e 0) ref
 
 -- a number that names no command
 no_name : (rows : List Row) → all_of of_no_command rows ≡ true → 0 < first_of rows → names_command (first_of rows) ≡ false
-no_name rows e h = not_true (names_command (first_of rows)) (first_passes of_no_command rows e h)
+no_name rows e h = not-true (names_command (first_of rows)) (first_passes of_no_command rows e h)
   where
-    not_true : (t : Bool) → not t ≡ true → t ≡ false
-    not_true true q = sym q
-    not_true false q = refl
+    not-true : (t : Bool) → not t ≡ true → t ≡ false
+    not-true true q = sym q
+    not-true false q = refl
 
 module _ (m : ℕ) (t : Task) where
   first_number : 0 < first_of (screen_rows m t.screen ++ list_rows t.form (screen_in t) t.list) → names_command (first_of (screen_rows m t.screen ++ list_rows t.form (screen_in t) t.list)) ≡ false

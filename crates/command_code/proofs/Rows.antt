@@ -2,7 +2,7 @@
 use Prim.Native.Nat.{ℕ, suc, ◌+◌, ◌*◌, ◌<◌, ◌≤◌}
 use mathlib.Core.Path.{◌≡◌, sym, ap, ◌∙◌}
 use mathlib.Core.List.{List, ◌∷◌}
-use mathlib.Core.Bool.{Bool, true, not, ◌&&◌, ◌||◌, and_true, and-eq-true_iff}
+use mathlib.Core.Bool.{Bool, true, not, ◌&&◌, ◌||◌, and-true, and-eq-true_iff}
 use mathlib.Core.Logic.{⊎_elim}
 use native.Mathlib.Omega.{arith}
 use lib.ListN.{length, get_or, drop, drop_of_length-le}
@@ -67,7 +67,7 @@ last_eight b x y h e f =
     (sym
     (zero_four b 40 (omega (arith, h))
     ∙ ap (λ (t : Bool). eqb (u32_at b 40) 0 && t)
-    (zero_four b 44 (omega (arith, h)) ∙ ap (λ (t : Bool). eqb (u32_at b 44) 0 && t) (none_past b 48 (omega (arith, h))) ∙ and_true (eqb (u32_at b 44) 0))))
+    (zero_four b 44 (omega (arith, h)) ∙ ap (λ (t : Bool). eqb (u32_at b 44) 0 && t) (none_past b 48 (omega (arith, h))) ∙ and-true (eqb (u32_at b 44) 0))))
 
 pub last_sixteen : (b : List ℕ) (x y : ℕ) (t : Bool) → length b ≡ 48 → x ≡ u32_at b 32 → y ≡ u32_at b 36 → t ≡ all_zero (drop 40 b) → (eqb x 0 && (eqb y 0 && t)) ≡ all_zero (drop 32 b)
 last_sixteen b x y t h e f g =

@@ -6,7 +6,7 @@ use mathlib.Core.Bool.{Bool, true, false, not, ◌&&◌, cond}
 use native.Mathlib.Omega.{arith}
 use lib.ListN.{length, get_or, set, replicate}
 use lib.Dec.{eqb}
-use borrow.Author.Tests.{eqb-true, eqb-false, eq-eqb, ne_eqb, not_true}
+use borrow.Author.Tests.{eqb-true, eqb-false, eq-eqb, ne_eqb, not-true}
 use Rattle.record.specs.Record.{record_with}
 use Rattle.record.proofs.Choice.{and_left, and_right}
 use Rattle.command.specs.Values.{blit_registers}
@@ -25,7 +25,7 @@ apart (k ∷ ks) = not_in k ks && apart ks
 not_at : (k : ℕ) (xs : List ℕ) → not_in k xs ≡ true → (i : ℕ) → i < length xs → eqb k (get_or xs i 0) ≡ false
 unfolding not_in
 not_at k [] u i h = absurd (omega arith)
-not_at k (x ∷ xs) u zero h = not_true (eqb k x) (and_left (not (eqb k x)) (not_in k xs) u)
+not_at k (x ∷ xs) u zero h = not-true (eqb k x) (and_left (not (eqb k x)) (not_in k xs) u)
 not_at k (x ∷ xs) u (suc i) h = not_at k xs (and_right (not (eqb k x)) (not_in k xs) u) i (omega arith)
 
 -- the value beside number i

@@ -9,7 +9,7 @@ use native.Mathlib.Omega.{arith}
 use lib.Dec.{eqb}
 use lib.ListN.{length, get_or, take, replicate}
 use lib.Seq.{length-take-le}
-use borrow.Author.Tests.{eq-eqb, ne_eqb, not_true, not-false}
+use borrow.Author.Tests.{eq-eqb, ne_eqb, not-true, not-false}
 use Rattle.record.specs.Bytes.{over}
 use Rattle.screen.specs.Values.{six_values, values_with}
 use Rattle.screen.specs.Narrow.{Narrow}
@@ -50,7 +50,7 @@ flag_not false = refl
 
 -- a refused record has a place
 pub refused_place : (n count : ℕ) → not (eqb n 0) ≡ true → count ≡ cond (eqb n 0) 0 count
-refused_place n count h = rw (not_true (eqb n 0) h)
+refused_place n count h = rw (not-true (eqb n 0) h)
 
 pub no_place : (n count : ℕ) → not (eqb n 0) ≡ false → 0 ≡ cond (eqb n 0) 0 count
 no_place n count h = rw (not-false (eqb n 0) h)

@@ -118,11 +118,11 @@ list_keeps m s e flag (b ∷ bs) deep left fines words old a h =
     let d : 8 ≤ s.depth = deep (omega arith) in
     list_keeps m s e flag bs (λ q. d) (left - n) fines.1 (drop n words) (sheet_command s (command_of b) (take n words) old) a
     (and_right (not (is_shown s.depth (surface_of s (command_of b)) a)) _ h)
-    ∙ command_keeps m s e flag d left (command_of b) fines.0 (take n words) old a (not_true _ (and_left _ _ h))
+    ∙ command_keeps m s e flag d left (command_of b) fines.0 (take n words) old a (not-true _ (and_left _ _ h))
   where
-    not_true : (t : Bool) → not t ≡ true → t ≡ false
-    not_true true q = sym q
-    not_true false q = refl
+    not-true : (t : Bool) → not t ≡ true → t ≡ false
+    not-true true q = sym q
+    not-true false q = refl
 
 played_keeps : (t : Task) (buffer memory : List ℕ) (a : ℕ) → InBytes t → AllBelow 256 memory
     → length memory ≡ memory_size → (compiling memory_size t (length buffer)).number ≡ 0

@@ -161,11 +161,11 @@ last_decides : (a : Ask) (i d : ℕ) (ds : List ℕ) → all_in_reach (writes a 
 unfolding writes all_in_reach
 last_decides a i d [] =
     let e : i + 0 ≡ i = omega arith in
-    rw (e, and_true (leb (a.y + 100) 65535))
+    rw (e, and-true (leb (a.y + 100) 65535))
   where
-    and_true : (b : Bool) → (b && true) ≡ b
-    and_true true = refl
-    and_true false = refl
+    and-true : (b : Bool) → (b && true) ≡ b
+    and-true true = refl
+    and-true false = refl
 last_decides a i d (e ∷ ds) =
     ap (λ (b : Bool). leb (a.x + i * 8) 65535 && (leb (a.y + 100) 65535 && b)) (last_decides a (suc i) e ds)
     ∙ farther (leb (a.x + i * 8) 65535) (leb (a.y + 100) 65535) (leb (a.x + (suc i + length ds) * 8) 65535)

@@ -1,6 +1,6 @@
 use mathlib.Core.Path.{sym, ◌∙◌}
 use mathlib.Core.Bool.{not}
-use borrow.Author.Tests.{not_true, not-false}
+use borrow.Author.Tests.{not-true, not-false}
 use Rattle.record.proofs.Choice.{and_left, and_right}
 use Rattle.chip.proofs.Admits.{plain_refusal, field_refusal, start_refusal}
 use borrow.Author.Rules.{rules}
@@ -23,8 +23,8 @@ returns c =
     let f = c.before.before.before.in_field in
     let t = c.before.if1.true in
     c.first-fault.ensures
-    ∙ field_refusal a.memory a.c a.r c.before.before.before.before.before.requires (sym s.ensures ∙ not_true _ (and_left (not s.result) (not (not f.result)) t))
-    (sym f.ensures ∙ not-false _ (not_true _ (and_right (not s.result) (not (not f.result)) t)))
+    ∙ field_refusal a.memory a.c a.r c.before.before.before.before.before.requires (sym s.ensures ∙ not-true _ (and_left (not s.result) (not (not f.result)) t))
+    (sym f.ensures ∙ not-false _ (not-true _ (and_right (not s.result) (not (not f.result)) t)))
 
 is-listed-requires : tie.Need-is-listed-requires
 is-listed-requires c κs = search rules
@@ -36,7 +36,7 @@ returns-2 : tie.Need-returns-2
 returns-2 c =
     let a = c.before.before.before.before.before.before.before.args in
     simp (c.first-fault2.ensures, c.before.before.before.before.before.in_field.ensures, c.before.before.is-listed.ensures)
-    (plain_refusal a.memory a.c a.r c.before.before.before.before.before.before.before.requires (sym c.before.before.before.before.starts-blit.ensures ∙ not_true _ c.before.if2.true))
+    (plain_refusal a.memory a.c a.r c.before.before.before.before.before.before.before.requires (sym c.before.before.before.before.starts-blit.ensures ∙ not-true _ c.before.if2.true))
 
 blit-after-requires : tie.Need-blit-after-requires
 blit-after-requires c κs = search rules

@@ -1,7 +1,7 @@
 use Prim.Native.Nat.{◌-◌, ◌≤◌}
 use mathlib.Core.Path.{sym, ap, ◌∙◌}
 use borrow.Author.Rules.{rules}
-use borrow.Author.Tests.{not_true, not-false}
+use borrow.Author.Tests.{not-true, not-false}
 use native.Mathlib.Omega.{arith}
 use Rattle.chip.specs.Words.{is_word}
 use Rattle.chip.proofs.Words.{Found, none_found, one_found, all_found, only_words_found}
@@ -31,7 +31,7 @@ returns c =
     let a = c.before.before.before.before.before.before.args in
     let l = c.before.before.before.before.loop in
     all_found a.stream.now a.i a.most l.n c.before.before.before.loop-test.true l.invariant.1
-    (ap is_word (sym c.before.before.record-at.ensures) ∙ sym c.before.is_IsWord.ensures ∙ not_true _ c.if1.true)
+    (ap is_word (sym c.before.before.record-at.ensures) ∙ sym c.before.is_IsWord.ensures ∙ not-true _ c.if1.true)
 
 add-n : tie.Need-overflow-add-n invariant-loop decreases-loop
 add-n c = omega arith

@@ -1,6 +1,6 @@
 use mathlib.Core.Path.{sym, ap, ◌∙◌}
 use Prim.Native.Nat.{ℕ, ◌-◌, min}
-use borrow.Author.Tests.{not_true, not-false}
+use borrow.Author.Tests.{not-true, not-false}
 use Rattle.record.specs.Record.{records_from}
 use Rattle.chip.specs.Words.{words_ahead}
 use Rattle.chip.proofs.Words.{none_due, taken_ahead}
@@ -11,7 +11,7 @@ use Rattle.chip_admit.proofs.words_taken.Tie as tie
 returns : tie.Need-returns
 returns c =
     let a = c.before.before.before.before.args in
-    sym (none_due a.c (records_from a.stream.now a.i (a.count - a.i)) (not_true _ c.if1.true))
+    sym (none_due a.c (records_from a.stream.now a.i (a.count - a.i)) (not-true _ c.if1.true))
 
 words-due-requires : tie.Need-words-due-requires
 words-due-requires c κs = search rules

@@ -1,7 +1,7 @@
 -- A write that starts nothing, and a start.
 use mathlib.Core.Path.{◌≡◌, refl, sym, ap, ◌∙◌}
 use mathlib.Core.Bool.{true}
-use borrow.Author.Tests.{not_true, not-false}
+use borrow.Author.Tests.{not-true, not-false}
 use Rattle.screen.specs.Screen.{memory_size}
 use Rattle.chip.specs.Start.{startable, within, started}
 use Rattle.chip.specs.Admit.{starts}
@@ -17,7 +17,7 @@ starts-blit-requires c κs = search rules
 returns : tie.Need-returns
 returns c =
     let a = c.before.before.before.args in
-    no_effect a.c a.r a.memory.now _ c.before.before.before.requires.1 (sym c.before.starts-blit.ensures ∙ not_true _ c.if1.true) refl
+    no_effect a.c a.r a.memory.now _ c.before.before.before.requires.1 (sym c.before.starts-blit.ensures ∙ not-true _ c.if1.true) refl
 
 blit-after-requires : tie.Need-blit-after-requires
 blit-after-requires c κs = search rules

@@ -3,7 +3,7 @@ use mathlib.Core.Path.{subst}
 use native.Mathlib.Omega.{arith}
 use lib.ListN.{length}
 use lib.Dec.{ltb}
-use borrow.Author.Tests.{ltb-true, not_true, not-false}
+use borrow.Author.Tests.{ltb-true, not-true, not-false}
 use borrow.Author.Rules.{rules}
 use Rattle.record.proofs.Choice.{and_right}
 use Rattle.command.proofs.Forms.{part_ends}
@@ -27,7 +27,7 @@ names-command-requires : tie.Need-names-command-requires
 names-command-requires c κs = search rules
 
 returns-2 : tie.Need-returns-2
-returns-2 c = part_none _ _ _ _ _ _ _ c.before.before.before.c.given.1 c.before.names-command.ensures c.before.before.before.before.before.quotient.ensures (not_true _ c.if1.true)
+returns-2 c = part_none _ _ _ _ _ _ _ c.before.before.before.c.given.1 c.before.names-command.ensures c.before.before.before.before.before.quotient.ensures (not-true _ c.if1.true)
 
 mul-t15 : tie.Need-overflow-mul-t15
 mul-t15 c =

@@ -2,7 +2,7 @@ use mathlib.Core.Path.{◌≡◌, sym, ap, ◌∙◌}
 use native.Mathlib.Omega.{arith}
 use lib.ListN.{length, take}
 use borrow.Author.Rules.{rules}
-use borrow.Author.Tests.{eqb-true, eqb-false, not_true, not-false}
+use borrow.Author.Tests.{eqb-true, eqb-false, not-true, not-false}
 use Rattle.record.specs.Checks.{first_of}
 use Rattle.reader.specs.Read.{read_rows}
 use Rattle.reader.specs.Looking.{look_number}
@@ -43,12 +43,12 @@ cast-whole c = search rules
 returns-2 : tie.Need-returns-2
 returns-2 c =
     let asked = c.before.before in
-    line_outside _ _ _ _ _ _ (none-fails asked.before.before) (sym asked.is-line-inside.ensures ∙ not_true _ c.if2.true)
+    line_outside _ _ _ _ _ _ (none-fails asked.before.before) (sym asked.is-line-inside.ensures ∙ not-true _ c.if2.true)
 
 returns-3 : tie.Need-returns-3
 returns-3 c =
     let asked = c.before.before.before in
-    line_short _ _ _ _ _ _ (none-fails asked.before.before) (sym asked.is-line-inside.ensures ∙ not-false _ c.before.if2.false) (eqb-false _ _ (not_true _ c.if3.true))
+    line_short _ _ _ _ _ _ (none-fails asked.before.before) (sym asked.is-line-inside.ensures ∙ not-false _ c.before.if2.false) (eqb-false _ _ (not-true _ c.if3.true))
 
 fill-line-requires : tie.Need-fill-line-requires
 fill-line-requires c κs =

@@ -2,7 +2,7 @@
 use Prim.Native.Nat.{◌≤◌, ◌-◌}
 use mathlib.Core.Path.{◌≡◌, refl, sym, ◌∙◌}
 use native.Mathlib.Omega.{arith}
-use borrow.Author.Tests.{not_true}
+use borrow.Author.Tests.{not-true}
 use borrow.Author.Rules.{rules}
 use lib.ListN.{length, drop}
 use Rattle.record.specs.Checks.{rows_with, first_of}
@@ -20,7 +20,7 @@ any-of-requires : tie.Need-any-of-requires invariant-loop decreases-loop
 any-of-requires c κs = search rules
 
 returns : tie.Need-returns invariant-loop decreases-loop
-returns c = sym (none_found _ _ (sym c.before.any_of.ensures ∙ not_true _ c.if1.true))
+returns c = sym (none_found _ _ (sym c.before.any_of.ensures ∙ not-true _ c.if1.true))
 
 loop-holds : tie.Need-loop-init invariant-loop decreases-loop
 loop-holds c = (search rules, refl)

@@ -1,5 +1,5 @@
 use Rattle.std.proofs.Common.{◌≡◌, ◌≤◌, true, length, get_or, ap, ◌∙◌, arith, length-set, rules}
-use borrow.Author.Tests.{not_true, not-false}
+use borrow.Author.Tests.{not-true, not-false}
 use Rattle.record.proofs.Choice.{tested}
 use Rattle.ring.specs.Kept.{takes, hours_on}
 use Rattle.ring.proofs.Stored.{taken_low, taken_hours, taken_number, refused_number, cells_refused, cells_taken, length_blanked}
@@ -29,7 +29,7 @@ takes-requires : tie.Need-takes-requires
 takes-requires c κs = search rules
 
 returns : tie.Need-returns
-returns c = let a = c.before.before.before.before.before.args in let t = tested c.before.takes.ensures (not_true _ c.if1.true) in (refused_number _ _ _ t, cells_refused a.cells.now a.sequence a.height c.before.before.before.before.before.requires t)
+returns c = let a = c.before.before.before.before.before.args in let t = tested c.before.takes.ensures (not-true _ c.if1.true) in (refused_number _ _ _ t, cells_refused a.cells.now a.sequence a.height c.before.before.before.before.before.requires t)
 
 hours-on-requires : tie.Need-hours-on-requires
 hours-on-requires c κs = search rules

@@ -1,5 +1,5 @@
 use Rattle.std.proofs.Common.{◌≡◌, ◌≤◌, true, length, sym, ◌∙◌, arith, rules}
-use borrow.Author.Tests.{not_true, not-false}
+use borrow.Author.Tests.{not-true, not-false}
 use Rattle.record.proofs.Choice.{tested}
 use Rattle.ring.specs.Kept.{takes, hours_on}
 use Rattle.ring.proofs.Stored.{taken_low, taken_hours, sample_refused, sample_taken, array_length}
@@ -24,7 +24,7 @@ takes-requires : tie.Need-takes-requires
 takes-requires c κs = search rules
 
 returns : tie.Need-returns
-returns c = sample_refused _ _ _ (tested c.before.takes.ensures (not_true _ c.if1.true))
+returns c = sample_refused _ _ _ (tested c.before.takes.ensures (not-true _ c.if1.true))
 
 hours-on-requires : tie.Need-hours-on-requires
 hours-on-requires c κs = search rules

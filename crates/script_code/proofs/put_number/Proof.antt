@@ -1,5 +1,5 @@
 use mathlib.Core.Path.{refl}
-use borrow.Author.Tests.{leb-true, not_true, not-false}
+use borrow.Author.Tests.{leb-true, not-true, not-false}
 use Rattle.record.proofs.Choice.{yes, no, tested}
 use Rattle.script.specs.Script.{number_put}
 use borrow.Author.Rules.{rules}
@@ -11,7 +11,7 @@ has-four-requires c κs = search rules
 
 returns : tie.Need-returns
 unfolding number_put
-returns c = no _ (tested c.before.has-four.ensures (not_true _ c.if1.true)) refl
+returns c = no _ (tested c.before.has-four.ensures (not-true _ c.if1.true)) refl
 
 put-number-requires : tie.Need-put-number-requires
 put-number-requires c κs = leb-true _ _ (tested c.before.before.has-four.ensures (not-false _ c.before.if1.false))

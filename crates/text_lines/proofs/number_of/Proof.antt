@@ -1,4 +1,4 @@
-use borrow.Author.Tests.{not_true, not-false}
+use borrow.Author.Tests.{not-true, not-false}
 use Rattle.text.proofs.Numbers.{no_text, number_start, digit_turn, no_digit, digit_range, number_end, more_digits, few_digits}
 use native.Mathlib.Omega.{arith}
 use borrow.Author.Rules.{rules}
@@ -16,7 +16,7 @@ abbrev decreases-loop : tie.decreases-loop
 decreases-loop text n₀ i₀ n i = length text - i
 
 returns : tie.Need-returns invariant-loop decreases-loop
-returns c = no_text _ (not_true _ c.if1.true)
+returns c = no_text _ (not-true _ c.if1.true)
 
 loop-holds : tie.Need-loop-init invariant-loop decreases-loop
 loop-holds c = let h = number_start _ (not-false _ c.if1.false) in (omega arith, (h.0, (omega arith, h.1)))
@@ -28,7 +28,7 @@ wide-requires : tie.Need-wide-requires invariant-loop decreases-loop
 wide-requires c κs = search rules
 
 returns-2 : tie.Need-returns-2 invariant-loop decreases-loop
-returns-2 c = let l = c.before.before.before.before.loop in sym (l.invariant.1.1.1 ∙ no_digit _ _ l.n l.i c.before.wide.ensures.0 c.before.before.before.loop-test.true (not_true _ c.if2.true))
+returns-2 c = let l = c.before.before.before.before.loop in sym (l.invariant.1.1.1 ∙ no_digit _ _ l.n l.i c.before.wide.ensures.0 c.before.before.before.loop-test.true (not-true _ c.if2.true))
 
 mul-n : tie.Need-overflow-mul-n invariant-loop decreases-loop
 mul-n c = let l = c.before.before.before.before.loop in omega (arith, few_digits l.n l.i l.invariant.1.1.0 (omega arith))

@@ -4,7 +4,7 @@ use mathlib.Core.Bool.{cond}
 use native.Mathlib.Omega.{arith}
 use lib.Dec.{leb}
 use borrow.Author.Rules.{rules}
-use borrow.Author.Tests.{leb-true, leb-false, not_true, not-false}
+use borrow.Author.Tests.{leb-true, leb-false, not-true, not-false}
 use Rattle.record.proofs.Choice.{both_ways}
 use Rattle.pixel.specs.Depth.{per_dword}
 use Rattle.view.specs.Steps.{meets_window, window_columns}
@@ -27,7 +27,7 @@ meets-window-requires c κs = search rules
 
 returns : tie.Need-returns
 unfolding window_columns
-returns c = simp (← meets c.before, not_true c.before.meets-window.result c.if1.true)
+returns c = simp (← meets c.before, not-true c.before.meets-window.result c.if1.true)
 
 chosen-requires : tie.Need-chosen-requires
 chosen-requires c κs = search rules

@@ -2,7 +2,7 @@ use Prim.Native.Nat.{◌-◌}
 use mathlib.Core.Path.{◌≡◌, refl}
 use native.Mathlib.Omega.{arith}
 use borrow.Author.Rules.{rules}
-use borrow.Author.Tests.{not_true, not-false}
+use borrow.Author.Tests.{not-true, not-false}
 use lib.ListN.{length, drop}
 use Rattle.record.proofs.Choice.{tested}
 use Rattle.wear.specs.Strip.{columns, all_in_reach}
@@ -32,7 +32,7 @@ column-reach-requires : tie.Need-column-reach-requires invariant-loop decreases-
 column-reach-requires c κs = (c.before.before.before.before.requires.0, (omega (arith, c.before.loop-test.true, c.before.before.before.before.requires.1.count), c.before.before.before.before.requires.1.low c.before.before.loop.c))
 
 returns : tie.Need-returns invariant-loop decreases-loop
-returns c = reach_off _ _ c.before.before.before.before.loop.c c.before.before.before.loop-test.true c.before.before.before.before.loop.invariant (tested c.before.column-reach.ensures (not_true _ c.if1.true))
+returns c = reach_off _ _ c.before.before.before.before.loop.c c.before.before.before.loop-test.true c.before.before.before.before.loop.invariant (tested c.before.column-reach.ensures (not-true _ c.if1.true))
 
 add-c : tie.Need-overflow-add-c invariant-loop decreases-loop
 add-c c = search rules
