@@ -2,7 +2,7 @@
 #![tactic(auto)]
 
 // What a source pixel and a destination pixel make: the source, the two under a raster code, or the source unless it is a key colour.
-#[derive(Drop)]
+#[derive(Clone, Copy)]
 pub enum Mix {
     Store,
     Raster(u8),
@@ -11,7 +11,7 @@ pub enum Mix {
 
 // Where the source pixels come from: one colour, memory from an address on, or an 8 × 8 pattern at an address, of which a column and a line
 // name the first pixel.
-#[derive(Drop)]
+#[derive(Clone, Copy)]
 pub enum From {
     Colour(u16),
     Memory(u32),
@@ -20,7 +20,7 @@ pub enum From {
 
 // A blit: its direction (down: negative), bytes of a pixel, line length in bytes, size in pixels, how pixels combine,
 // source, and destination address.
-#[derive(Drop)]
+#[derive(Clone, Copy)]
 pub struct Job {
     pub down: bool,
     pub bytes: usize,

@@ -5,7 +5,7 @@ use screen::ScreenValues;
 
 // The blit registers 8000h, 8008h, 800Ch, 8010h, 8014h, 8018h, 801Ch, 8020h and 8024h.
 #[repr(C)]
-#[derive(Drop)]
+#[derive(Clone, Copy)]
 pub struct Registers {
     pub control: u32,
     pub command: u32,
@@ -19,7 +19,7 @@ pub struct Registers {
 }
 
 // Whether a data word is due, its line, and its index in the line.
-#[derive(Drop)]
+#[derive(Clone, Copy)]
 pub struct Due {
     pub any: bool,
     pub line: u16,
@@ -27,7 +27,7 @@ pub struct Due {
 }
 
 // All registers, and the data that is due.
-#[derive(Drop)]
+#[derive(Clone, Copy)]
 pub struct Chip {
     pub screen: ScreenValues,
     pub blit: Registers,
@@ -35,14 +35,14 @@ pub struct Chip {
 }
 
 // A refusal number and the record's index, or 0, 0 and the chip after the records.
-#[derive(Drop)]
+#[derive(Clone, Copy)]
 pub struct Run {
     pub number: u32,
     pub place: u64,
     pub chip: Chip,
 }
 
-#[derive(Drop)]
+#[derive(Clone, Copy)]
 pub enum Played {
     Accepted(ScreenValues),
     Refused(u32, u64),

@@ -3,7 +3,7 @@
 
 // A command record's fields; (sx, sy) is a move's source. The last four, the key colour, a pattern's first pixel (px, py) and its address, are the
 // long form's.
-#[derive(Drop)]
+#[derive(Clone, Copy)]
 pub struct Command {
     pub operation: u8,
     pub surface: u8,
@@ -21,7 +21,7 @@ pub struct Command {
     pub pattern: u32,
 }
 
-#[derive(Drop)]
+#[derive(Clone, Copy)]
 pub enum CommandAnswer {
     Accepted(Command),
     Refused(u32),

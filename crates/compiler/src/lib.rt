@@ -2,14 +2,14 @@
 #![tactic(auto)]
 
 // The stream's length in bytes, depth, rotation and flag; or the refusal number and its place.
-#[derive(Drop)]
+#[derive(Clone, Copy)]
 pub enum Compiled {
     Accepted(u64, u32, u32, u32),
     Refused(u32, u64),
 }
 
 // What the first pass finds: number and place of the first refusal of 12 to 15 and 29, or the host words that are taken.
-#[derive(Drop)]
+#[derive(Clone, Copy)]
 pub struct Pass {
     pub number: u32,
     pub place: u64,
@@ -17,7 +17,7 @@ pub struct Pass {
 }
 
 // Where the refused command stands in the list, in bytes, and its length; 0 and 0 where no command is refused.
-#[derive(Drop)]
+#[derive(Clone, Copy)]
 pub struct Part {
     pub at: u64,
     pub length: u64,

@@ -3,7 +3,7 @@
 
 // What turning a list gives back: 0 or why it was refused, and the turned list's length in bytes.
 #[repr(C)]
-#[derive(Drop)]
+#[derive(Clone, Copy)]
 pub struct Turned {
     pub number: u32,
     pub length: u64,

@@ -2,7 +2,7 @@
 #![tactic(auto)]
 
 // What the panel is set to: depth, rotation, window flag, and its size.
-#[derive(Drop)]
+#[derive(Clone, Copy)]
 pub struct Display {
     pub depth: u32,
     pub rotation: u32,
@@ -12,14 +12,14 @@ pub struct Display {
 }
 
 // Where the reader looks: the address of the pixel's byte, and the place of its highest bit there; or a refusal number.
-#[derive(Drop)]
+#[derive(Clone, Copy)]
 pub enum Look {
     At(u64, u32),
     Nowhere(u32),
 }
 
 // The pixel's colour, its byte's address, and the place of its highest bit in that byte; or a refusal number.
-#[derive(Drop)]
+#[derive(Clone, Copy)]
 pub enum PointAnswer {
     Shown(u16, u64, u32),
     Refused(u32),

@@ -21,7 +21,7 @@ pub struct Taken {
 }
 
 // What is told of an hour: its sample's height, that it is blank, or why it is not told.
-#[derive(Drop)]
+#[derive(Clone, Copy)]
 pub enum Hour {
     Sample(u32),
     Blank,

@@ -2,7 +2,7 @@
 #![tactic(auto)]
 
 // What ends a run of letters: a space, a letter that is none, or a line end.
-#[derive(Drop)]
+#[derive(Clone, Copy)]
 pub enum Stop {
     Space,
     Ink,
@@ -10,7 +10,7 @@ pub enum Stop {
 }
 
 // What a line means: a sample with its sequence number and height, nothing, or no sample.
-#[derive(Drop)]
+#[derive(Clone, Copy)]
 pub enum SampleLine {
     Sample(u16, u32),
     Nothing,

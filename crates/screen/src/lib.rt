@@ -2,7 +2,7 @@
 #![tactic(auto)]
 
 // The small window: its image's base, its place in the view, its size, and its image's line length in pixels (0: the shown width).
-#[derive(Drop)]
+#[derive(Clone, Copy)]
 pub struct Window {
     pub base: u32,
     pub x: u16,
@@ -13,7 +13,7 @@ pub struct Window {
 }
 
 // A screen record's fields. The line is the main image's line length in pixels (0: the shown width).
-#[derive(Drop)]
+#[derive(Clone, Copy)]
 pub struct Screen {
     pub depth: u8,
     pub rotation: u8,
@@ -25,14 +25,14 @@ pub struct Screen {
     pub window: Window,
 }
 
-#[derive(Drop)]
+#[derive(Clone, Copy)]
 pub enum ScreenAnswer {
     Accepted(Screen),
     Refused(u32),
 }
 
 // An image in display memory: its base, its line length in bytes, and the pixels that it shows.
-#[derive(Drop)]
+#[derive(Clone, Copy)]
 pub struct Image {
     pub base: u32,
     pub line: u32,
@@ -41,14 +41,14 @@ pub struct Image {
 }
 
 // An image's start and line offset registers, in dwords.
-#[derive(Drop)]
+#[derive(Clone, Copy)]
 pub struct Origin {
     pub start: u64,
     pub offset: u64,
 }
 
 // The six screen register values.
-#[derive(Drop)]
+#[derive(Clone, Copy)]
 pub struct ScreenValues {
     pub main: Origin,
     pub window: Origin,

@@ -2,7 +2,7 @@
 #![tactic(auto)]
 
 // A line that is read as far as a number: the number as decimal and as hexadecimal, and the blanks passed.
-#[derive(Drop)]
+#[derive(Clone, Copy)]
 pub struct Scan {
     pub value: u32,
     pub hex: u32,
@@ -10,7 +10,7 @@ pub struct Scan {
 }
 
 // Whether all lines since an example's first were as the papers have them, and whether all were.
-#[derive(Drop)]
+#[derive(Clone, Copy)]
 pub struct Tally {
     pub example: bool,
     pub all: bool,

@@ -28,7 +28,7 @@ pub struct Player {
 
 // What a block and the end give back, as playing does: number, place and the six screen values.
 #[repr(C)]
-#[derive(Drop)]
+#[derive(Clone, Copy)]
 pub struct Answer {
     pub number: u32,
     pub place: u64,
@@ -43,7 +43,7 @@ pub struct Fed {
 }
 
 // Records on the way: the chip after those that were taken, their count, and the number of the one that was refused, or 0.
-#[derive(Drop)]
+#[derive(Clone, Copy)]
 pub struct Taking {
     pub chip: Chip,
     pub count: u64,

@@ -2,7 +2,7 @@
 #![tactic(auto)]
 
 // Whether a text is a number, and which; 0 where it is none.
-#[derive(Drop)]
+#[derive(Clone, Copy)]
 pub struct Number {
     pub ok: bool,
     pub n: u32,

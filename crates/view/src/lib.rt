@@ -2,7 +2,7 @@
 #![tactic(auto)]
 
 // A place that the walk comes to: the dword up − down, and the pixel in it.
-#[derive(Drop)]
+#[derive(Clone, Copy)]
 pub struct Place {
     pub up: u64,
     pub down: u64,
@@ -10,7 +10,7 @@ pub struct Place {
 }
 
 // Columns of a panel line: from `from` on, up to `to`, which is not one of them.
-#[derive(Drop)]
+#[derive(Clone, Copy)]
 pub struct Columns {
     pub from: u32,
     pub to: u32,
@@ -18,7 +18,7 @@ pub struct Columns {
 
 // A walk along a panel line by steps: its first pixel has ahead − behind bits of memory before it, and each next one so many more, or, back, so
 // many fewer.
-#[derive(Drop)]
+#[derive(Clone, Copy)]
 pub struct Steps {
     pub ahead: u64,
     pub behind: u64,

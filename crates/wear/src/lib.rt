@@ -2,7 +2,7 @@
 #![tactic(auto)]
 
 // The hours shown, the screen's depth, the upper left corner, the column width, and the two colours.
-#[derive(Drop)]
+#[derive(Clone, Copy)]
 pub struct Ask {
     pub hours: u32,
     pub depth: u32,
@@ -14,14 +14,14 @@ pub struct Ask {
 }
 
 // The bytes of the list and the count of the words; or the refusal number.
-#[derive(Drop)]
+#[derive(Clone, Copy)]
 pub enum StripAnswer {
     Made(u64, u64),
     Refused(u32),
 }
 
 // Where a glyph stands, in the site font or in the factory font; or the refusal number.
-#[derive(Drop)]
+#[derive(Clone, Copy)]
 pub enum GlyphAnswer {
     Site(u64),
     Factory(u64),
@@ -29,7 +29,7 @@ pub enum GlyphAnswer {
 }
 
 // A number's decimal digits, highest first, and how many they are.
-#[derive(Drop)]
+#[derive(Clone, Copy)]
 pub struct Digits {
     pub count: u32,
     pub digits: [u8; 5],
