@@ -1,0 +1,11 @@
+use Rattle.ring.proofs.Runs.{blank_one, blank_two}
+use Rattle.std.proofs.Common.{arith}
+use Rattle.ring_code.proofs.blank.Goals as goal
+
+pub returns-then-back-at : goal.returns-then-back-at
+returns-then-back-at c = let a = c.args in
+    blank_one a.from _ a.n a.hours c.slot_of-at.result c.slot_of-at.ensures _ c.if-back-at.true c.zero.ensures
+
+pub returns : goal.returns
+returns c = let a = c.args in
+    blank_two a.from _ a.n a.hours c.slot_of-at.result c.slot_of-at.ensures _ _ (omega arith) (omega arith) c.zero-2.ensures c.zero-3.ensures
