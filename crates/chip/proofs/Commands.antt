@@ -21,7 +21,7 @@ use Rattle.blit.specs.Words.{words_across, host_pixel, chip_word}
 use Rattle.blit.proofs.Words.{host_word, writing, write_first, write_last, write_next, write_line}
 use Rattle.chip.specs.Register.{control_fits, command_fits, listed, fits, screen_after, blit_after}
 use Rattle.chip.specs.Start.{operation, bytes_of, source_of, destination_of, line_of, width_of, height_of, foreground_of, startable, within, write_of, started}
-use Rattle.chip.specs.Admit.{starts, written, admit_rows, refusal, no_data, due_after, due_of, chip_after, effect}
+use Rattle.chip.specs.Admit.{written, admit_rows, refusal, no_data, due_after, due_of, chip_after, effect}
 use Rattle.chip.specs.declared.Chip.{Chip}
 use Rattle.chip.specs.declared.Due.{Due}
 use Rattle.chip.specs.declared.Registers.{Registers}

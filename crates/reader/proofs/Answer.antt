@@ -1,6 +1,6 @@
 -- The reader's table of checks, and its answer.
-use Prim.Native.Nat.{ℕ, zero, suc, ◌+◌, ◌-◌, ◌*◌, ◌/◌, ◌≤◌, ◌<◌, min, max}
-use mathlib.Core.Path.{◌≡◌, refl, sym, ap, ap₂, subst, ◌∙◌}
+use Prim.Native.Nat.{ℕ, zero, suc, ◌+◌, ◌-◌, ◌/◌, ◌≤◌, ◌<◌, min, max}
+use mathlib.Core.Path.{◌≡◌, refl, sym, ap, subst, ◌∙◌}
 use mathlib.Core.List.{List, [], ◌∷◌}
 use mathlib.Core.Bool.{Bool, true, false, not, cond}
 use native.Mathlib.Omega.{arith}
@@ -18,7 +18,7 @@ use Rattle.screen.specs.Fields.{values_fit}
 use Rattle.screen.specs.declared.ScreenValues.{ScreenValues}
 use Rattle.view.specs.declared.Place.{Place}
 use Rattle.view.proofs.Reaches.{low_place}
-use Rattle.reader.specs.Read.{Reading, looked_at, dword_inside, read_rows, colour_at, address_at, bit_at, read_at, refused_point, reading, reading_of, answer_of, Stands, Standing}
+use Rattle.reader.specs.Read.{Reading, looked_at, dword_inside, read_rows, address_at, bit_at, read_at, refused_point, reading, reading_of, answer_of, Stands, Standing}
 use Rattle.reader.specs.Looking.{looking, seen, Seeable, look_number}
 use Rattle.reader.specs.declared.Display.{Display}
 use Rattle.reader.specs.declared.Look.{Look}

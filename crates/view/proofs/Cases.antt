@@ -1,5 +1,5 @@
 -- View pixels, walks and windows, computed: 01's cells at one point of S1's panel, 320 by 240 with eight pixels to a dword.
-use Prim.Native.Nat.{ℕ, ◌/◌, ◌%◌}
+use Prim.Native.Nat.{ℕ}
 use mathlib.Core.Path.{◌≡◌, refl}
 use mathlib.Core.Bool.{Bool, true, false}
 use mathlib.Core.List.{List, [], ◌∷◌, map}
