@@ -67,9 +67,9 @@ word_rows t = row 16 (ltb (all_words (screen_in t) (commands_in t)) (length t.wo
 unfoldable pub task_refusal : ℕ → Task → Refusal
 task_refusal m t =
     let first = first_of (screen_rows m t.screen ++ list_rows t.form (screen_in t) t.list) in
-    let in_list_lem = first_refusal m (screen_in t) 0 (length t.words) (commands_in t) in
+    let in_list = first_refusal m (screen_in t) 0 (length t.words) (commands_in t) in
     cond (not (eqb first 0)) (record { number = first; place = 0 })
-    (cond (not (eqb in_list_lem.number 0)) in_list_lem
+    (cond (not (eqb in_list.number 0)) in_list
     (record { number = first_of (word_rows t); place = 0 }))
 
 -- none of 1 to 16, 26 and 29 is given
