@@ -1,11 +1,9 @@
 -- Lines that are samples, nothing and no samples; and a text's samples in their order.
 use mathlib.Core.Path.{◌≡◌, refl}
-use mathlib.Core.List.{List, [], ◌∷◌, map}
+use mathlib.Core.List.{[], ◌∷◌, map}
 use Rattle.text.specs.Text.{letters}
 use Rattle.text.specs.Numbers.{number_of, digits_behind}
-use Rattle.ring.specs.Samples.{Sample}
 use Rattle.sample.specs.Line.{stops, before, behind, sample_with, line_means, lines_of, with_line, samples_of}
-use Rattle.sample.specs.declared.SampleLine.{SampleLine}
 use Rattle.sample.specs.declared.SampleLine.TheVariants.{Sample as Given, Nothing, Bad}
 
 -- two words with spaces, tabs or a carriage return around them

@@ -12,7 +12,6 @@ use Rattle.text.specs.Numbers.{number_of}
 use Rattle.text.specs.declared.Number.{Number}
 use Rattle.sample.specs.Line.{is_space, stops, before, behind, is_empty, sample_with, line_means}
 use Rattle.sample.specs.declared.Stop.{Stop}
-use Rattle.sample.specs.declared.Stop.TheVariants as Stop
 use Rattle.sample.specs.declared.SampleLine.TheVariants as SampleLine
 
 module _ (e : Stop) (c : ℕ) where

@@ -10,8 +10,7 @@ use lib.Dec.{eqb}
 use Rattle.ring.specs.Samples.{Sample}
 use Rattle.ring.specs.Kept.{ring_after, taking}
 use Rattle.ring.specs.declared.Ring.{Ring}
-use Rattle.sample.specs.Line.{stops, before, behind, line_means, in_front, lines_of, with_line, samples_of}
-use Rattle.sample.specs.declared.Stop.{Stop}
+use Rattle.sample.specs.Line.{stops, before, behind, line_means, lines_of, with_line, samples_of}
 use Rattle.sample.specs.declared.Stop.TheVariants.{LineEnd}
 use Rattle.sample.specs.declared.SampleLine.{SampleLine}
 use Rattle.sample.specs.declared.SampleLine.TheVariants.{Sample as Given, Nothing, Bad}

@@ -1,6 +1,6 @@
 -- A text's number, digit by digit: the number of the digits so far, with the others behind it, is the whole.
-use Prim.Native.Nat.{ℕ, suc, ◌+◌, ◌-◌, ◌*◌, ◌^◌, ◌<◌, ◌≤◌}
-use mathlib.Core.Path.{◌≡◌, refl, sym, ap, ◌∙◌}
+use Prim.Native.Nat.{ℕ, ◌+◌, ◌-◌, ◌*◌, ◌^◌, ◌<◌, ◌≤◌}
+use mathlib.Core.Path.{◌≡◌}
 use mathlib.Core.Bool.{true, false, ◌&&◌}
 use mathlib.Core.List.{List}
 use native.Mathlib.Nat.{pow-suc, pow-le-pow_right}
@@ -12,7 +12,6 @@ use lib.Dec.{leb}
 use borrow.Author.Tests.{leb-true}
 use Rattle.record.proofs.Choice.{and_left, and_right}
 use Rattle.text.specs.Numbers.{is_digit, no_number, digits_behind, number_of}
-use Rattle.text.specs.declared.Number.{Number}
 
 -- a text that is empty or too long
 pub no_text : (s : List ℕ) → leb 1 (length s) && leb (length s) 9 ≡ false → no_number ≡ number_of s
