@@ -1,0 +1,7 @@
+use Rattle.text.proofs.Stored.{then_stored}
+use Rattle.text.specs.Lines.{point_line}
+use Rattle.text_code.proofs.put_point.Goals as goal
+
+pub returns : goal.returns
+unfolding point_line
+returns c = then_stored (then_stored (then_stored (then_stored (then_stored (then_stored c.put-at.ensures c.put_decimal-at.ensures) c.put-at-2.ensures) c.put_decimal-at-2.ensures) c.put-at-3.ensures) c.put_decimal-at-3.ensures) c.put.ensures
