@@ -63,7 +63,7 @@ fn is_between(v: u64, t: u64) -> bool
 }
 
 // Whether the chip takes a point for one of the window's: with flag 1 alone.
-fn in_window_lem(flag: u32, rotation: u32, k: u32, x: u64, y: u64, p: u32, q: u32) -> bool
+fn in_window(flag: u32, rotation: u32, k: u32, x: u64, y: u64, p: u32, q: u32) -> bool
     ensures { result ≡ (eqb flag 1 && in_window_by rotation k x y p q) }
 {
     if flag != 1 {
@@ -106,7 +106,7 @@ pub fn place_of(depth: u32, rotation: u32, flag: u32, values: ScreenValues, p: u
     let k = pixel_code::per_dword(depth);
     let main = values.main;
     let window = values.window;
-    if in_window_lem(flag, rotation, k, values.x, values.y, p, q) {
+    if in_window(flag, rotation, k, values.x, values.y, p, q) {
         let x = record_code::minus(p as u64, corner_p(rotation, k, values.x));
         let y = record_code::minus(q as u64, corner_q(rotation, k, values.y));
         return walk_to(rotation, k, window, x as u32, y as u32);
@@ -193,7 +193,7 @@ pub fn steps_from(
     let k = pixel_code::per_dword(depth);
     let main = values.main;
     let window = values.window;
-    if in_window_lem(flag, rotation, k, values.x, values.y, p, q) {
+    if in_window(flag, rotation, k, values.x, values.y, p, q) {
         let x = record_code::minus(p as u64, corner_p(rotation, k, values.x));
         let y = record_code::minus(q as u64, corner_q(rotation, k, values.y));
         let w = walk_to(rotation, k, window, x as u32, y as u32);
