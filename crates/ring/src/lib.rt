@@ -3,7 +3,7 @@
 
 // An hour stands in the slot of its sequence number modulo 512. Every value is a ring.
 #[repr(C)]
-#[derive(Drop)]
+#[derive(Clone, Copy)]
 pub struct Ring {
     // Whether there is a sample (0: none), and the newest one's sequence number.
     pub any: u16,
