@@ -130,7 +130,7 @@ fn is_whole(b: Registers, address: u32) -> bool
 }
 
 // What is asked of the source address.
-fn source_fits_lem(b: Registers) -> bool
+fn source_fits(b: Registers) -> bool
     ensures { result ≡ source_fits b }
 {
     let source = chip_due::source_of(b);
@@ -152,7 +152,7 @@ fn source_fits_lem(b: Registers) -> bool
 fn is_startable(b: Registers) -> bool
     ensures { result ≡ startable b }
 {
-    let fits = source_fits_lem(b);
+    let fits = source_fits(b);
     fits & is_whole(b, chip_due::destination_of(b))
 }
 
