@@ -29,20 +29,20 @@ overflow_add-result-in_default c = omega (arith, c.requires.0, lines c.chosen.re
 
 pub returns-in-0 : goal.returns-in-0
 unfolding walk
-returns-in-0 c = let o = c in
-    simp (o.quotient-dwords.ensures, c.remainder-pixel.ensures, o.chosen.ensures, o.chosen-along.ensures, c.in-0.is)
+returns-in-0 c =
+    simp (c.quotient-dwords.ensures, c.remainder-pixel.ensures, c.chosen.ensures, c.chosen-along.ensures, c.in-0.is)
 
 pub returns-in-1 : goal.returns-in-1
 unfolding walk
-returns-in-1 c = let o = c in
-    simp (o.quotient-dwords.ensures, c.minus-back.ensures, c.minus.ensures, c.remainder-pixel.ensures, o.chosen.ensures, o.chosen-along.ensures, c.in-1.is)
+returns-in-1 c =
+    simp (c.quotient-dwords.ensures, c.minus-back.ensures, c.minus.ensures, c.remainder-pixel.ensures, c.chosen.ensures, c.chosen-along.ensures, c.in-1.is)
 
 pub returns-in-2 : goal.returns-in-2
 unfolding walk
-returns-in-2 c = let o = c in
-    simp (o.quotient-dwords.ensures, c.minus-back.ensures, c.minus.ensures, c.remainder-pixel.ensures, o.chosen.ensures, o.chosen-along.ensures, c.in-2.is)
+returns-in-2 c =
+    simp (c.quotient-dwords.ensures, c.minus-back.ensures, c.minus.ensures, c.remainder-pixel.ensures, c.chosen.ensures, c.chosen-along.ensures, c.in-2.is)
 
 pub returns-in_default : goal.returns-in_default
 unfolding walk
-returns-in_default c = let o = c in
-    simp (o.quotient-dwords.ensures, c.remainder-pixel.ensures, o.chosen.ensures, o.chosen-along.ensures, ne_eqb o.args.rotation 0 (λ e. omega (arith, e)), ne_eqb o.args.rotation 1 (λ e. omega (arith, e)), ne_eqb o.args.rotation 2 (λ e. omega (arith, e)))
+returns-in_default c =
+    simp (c.quotient-dwords.ensures, c.remainder-pixel.ensures, c.chosen.ensures, c.chosen-along.ensures, ne_eqb c.args.rotation 0 (λ e. omega (arith, e)), ne_eqb c.args.rotation 1 (λ e. omega (arith, e)), ne_eqb c.args.rotation 2 (λ e. omega (arith, e)))
