@@ -10,20 +10,16 @@ use Rattle.screen.specs.Values.{six_values}
 use Rattle.compiler.specs.Compile.{Compiling, compiling_of}
 use Rattle.compiler.specs.Part.{part_from, part_size}
 use Rattle.compiler.specs.declared.Compiled.{Compiled}
-use Rattle.compiler.specs.declared.Compiled.TheVariants as Compiled
 use Rattle.chip.specs.Play.{playing_of}
 use Rattle.chip.specs.declared.Played.{Played}
-use Rattle.chip.specs.declared.Played.TheVariants as Played
 use Rattle.reader.specs.Read.{display_of, reading_of}
 use Rattle.reader.specs.Line.{line_number, line_after}
 use Rattle.reader.specs.Looking.{looking}
 use Rattle.reader.specs.declared.Display.{Display}
 use Rattle.reader.specs.declared.Look.{Look}
 use Rattle.reader.specs.declared.PointAnswer.{PointAnswer}
-use Rattle.reader.specs.declared.PointAnswer.TheVariants as PointAnswer
 use Rattle.unit.specs.Draw.{drawing_of}
 use Rattle.unit.specs.declared.Drawn.{Drawn}
-use Rattle.unit.specs.declared.Drawn.TheVariants as Drawn
 use Rattle.serial.specs.Serial.{answer_of}
 use Rattle.answers.specs.declared.S1dCompiled.{S1dCompiled}
 use Rattle.answers.specs.Answers.{compiled_of, display_with, point_of, drawn_of, values_in}

@@ -3,13 +3,10 @@ use Prim.Native.Nat.{ℕ}
 use mathlib.Core.Path.{◌≡◌, sym, ap}
 use Rattle.ring.specs.Kept.{telling_of}
 use Rattle.ring.specs.declared.Hour.{Hour}
-use Rattle.ring.specs.declared.Hour.TheVariants as Hour
 use Rattle.wear.specs.Font.{finding_of}
 use Rattle.wear.specs.Strip.{stripping_of}
 use Rattle.wear.specs.declared.GlyphAnswer.{GlyphAnswer}
-use Rattle.wear.specs.declared.GlyphAnswer.TheVariants as GlyphAnswer
 use Rattle.wear.specs.declared.StripAnswer.{StripAnswer}
-use Rattle.wear.specs.declared.StripAnswer.TheVariants as StripAnswer
 use Rattle.answers.specs.Answers.{hour_given, strip_given, glyph_given}
 
 module _ (a : Hour) where

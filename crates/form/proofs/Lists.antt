@@ -3,10 +3,10 @@ use Prim.Native.Nat.{ℕ, zero, suc, ◌+◌, ◌-◌, ◌*◌, ◌/◌, ◌%◌
 use mathlib.Core.Path.{◌≡◌, refl, sym, ap, ◌∙◌}
 use mathlib.Core.List.{List, [], ◌∷◌, ◌++◌, map}
 use mathlib.Core.Bool.{true}
-use native.Mathlib.Nat.{add-zero, zero-add, zero-mul, suc-mul, mul-div_cancel, mul-mod_left, mul-le-mul_right, div-add-mod', div-le_of_le-mul, mul_comm}
+use native.Mathlib.Nat.{add-zero, zero-add, zero-mul, suc-mul, mul-div_cancel, mul-mod_left, mul-le-mul_right, div-add-mod'}
 use native.Mathlib.Omega.{arith}
 use lib.ListN.{length, get_or, take, drop, replicate, length-append, length-replicate, length-map}
-use lib.Seq.{length-take-le, take-add, take_all, drop-drop, take_at, drop_at}
+use lib.Seq.{length-take-le, take-add, take_all, drop-drop, take_at}
 use borrow.Author.Tests.{eq-eqb, le-leb}
 use Rattle.record.specs.Lists.{parts_from, parts_of}
 use Rattle.record.proofs.Lists.{length_parts, parts_behind}

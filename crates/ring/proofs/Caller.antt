@@ -1,9 +1,9 @@
 -- The ring that a C caller holds, after samples.
 use Prim.Native.Nat.{ℕ, ◌+◌, ◌-◌}
-use mathlib.Core.Path.{◌≡◌, refl, sym, ap, subst, ◌∙◌}
+use mathlib.Core.Path.{◌≡◌, refl, ap, subst, ◌∙◌}
 use mathlib.Core.Bool.{Bool, true, false}
 use mathlib.Core.List.{List, [], ◌∷◌, ◌++◌}
-use lib.ListN.{length, set, take, drop, length-set}
+use lib.ListN.{length, take, drop, length-set}
 use lib.Seq.{take-append_seam, drop-append_seam}
 use Rattle.ring.specs.Samples.{Sample}
 use Rattle.ring.specs.Kept.{empty_ring, slot_of, takes, hours_on, blanked, with_sample, taking, ring_after, ring_in, cells_of}

@@ -3,7 +3,7 @@ use Prim.Native.Nat.{ℕ}
 use mathlib.Core.Path.{◌≡◌, refl}
 use mathlib.Core.Bool.{true, false}
 use mathlib.Core.List.{List, [], ◌∷◌, ◌++◌}
-use lib.ListN.{length, take, drop, replicate}
+use lib.ListN.{take, drop, replicate}
 use Rattle.record.specs.Checks.{first_of, first_place, rows_at}
 use Rattle.record.specs.Record.{record_with, record_bytes, stream_bytes, record_at, records_from, records_of}
 use Rattle.record.specs.declared.Record.{Record}

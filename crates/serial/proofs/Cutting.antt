@@ -14,7 +14,7 @@ use Rattle.record.proofs.Records.{records_count}
 use Rattle.screen.specs.Screen.{memory_size}
 use Rattle.chip.specs.Play.{new_chip, run, applied, Playing, refused_by, ending, playing, played}
 use Rattle.chip.specs.declared.Run.{Run}
-use Rattle.chip.proofs.Answers.{accepted_by_lem, whole, accepts, end_refused}
+use Rattle.chip.proofs.Answers.{accepted_by_lem, whole, end_refused}
 use Rattle.serial.specs.State.{most_records, chip_of, state_of, new_player}
 use Rattle.serial.specs.Serial.{Stage, bytes_taken, block_rows, kept_by, Feeding, fed_with, feeding, keeping, ended_player, end_answer}
 use Rattle.serial.specs.Taking.{stage_at, stage_of}

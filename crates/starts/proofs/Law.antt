@@ -1,15 +1,14 @@
 -- The law: what an admitted stream does to the memory is what its starts and their data words do.
 use Prim.Native.Nat.{ℕ, ◌/◌, ◌%◌, ◌<◌}
-use mathlib.Core.Path.{◌≡◌, refl, sym, ap, subst, ◌∙◌}
+use mathlib.Core.Path.{◌≡◌, refl, sym, ap, ◌∙◌}
 use mathlib.Core.List.{List, [], ◌∷◌}
-use mathlib.Core.Bool.{Bool, true, false, not, ◌&&◌, cond, true≢false}
+use mathlib.Core.Bool.{Bool, true, false, not, cond, true≢false}
 use lib.Dec.{eqb, lit<}
 use lib.ListN.{length}
 use native.Mathlib.Omega.{arith}
-use borrow.Author.Tests.{eqb-true, eqb-false, eq-eqb, ne_eqb}
+use borrow.Author.Tests.{eqb-true, eq-eqb}
 use Rattle.record.specs.Record.{records_of}
 use Rattle.record.specs.declared.Record.{Record}
-use Rattle.blit.specs.Blit.{Blit}
 use Rattle.blit.specs.Words.{chip_word}
 use Rattle.chip.specs.Register.{blit_after}
 use Rattle.chip.specs.Start.{operation, write_of, started}
@@ -18,7 +17,6 @@ use Rattle.chip.specs.Play.{new_chip, run, applied, Playing, playing, played}
 use Rattle.chip.specs.declared.Registers.{Registers}
 use Rattle.chip.specs.declared.Due.{Due}
 use Rattle.chip.specs.declared.Chip.{Chip}
-use Rattle.chip.specs.declared.Run.{Run}
 use Rattle.chip.proofs.Admits.{admits, data_after, word_effect, start_effect, no_effect}
 use Rattle.chip.proofs.Runs.{Admitted, all_admitted, applied_end, applied_step}
 use Rattle.command.proofs.Operation.{is_or_not}

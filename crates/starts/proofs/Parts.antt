@@ -1,21 +1,20 @@
 -- The parts of a stream: register writes that start nothing, and data words.
 use Prim.Native.Nat.{ℕ}
-use mathlib.Core.Path.{◌≡◌, refl, sym, ap, subst, ◌∙◌}
+use mathlib.Core.Path.{◌≡◌, refl, sym, ap, ◌∙◌}
 use mathlib.Core.List.{List, [], ◌∷◌, ◌++◌}
 use mathlib.Core.Bool.{true, false, not, cond, true≢false}
 use Rattle.record.specs.Record.{record_with}
 use Rattle.record.specs.declared.Record.{Record}
 use Rattle.screen.specs.declared.ScreenValues.{ScreenValues}
 use Rattle.chip.specs.Register.{fits, screen_after, blit_after}
-use Rattle.chip.specs.Start.{operation}
-use Rattle.chip.specs.Admit.{is_data, starts, written, refusal, due_after, chip_after}
+use Rattle.chip.specs.Admit.{is_data, starts, refusal, due_after, chip_after}
 use Rattle.chip.specs.declared.Registers.{Registers}
 use Rattle.chip.specs.declared.Due.{Due}
 use Rattle.chip.specs.declared.Chip.{Chip}
 use Rattle.chip.proofs.Admits.{admits, admits_back, field_listed, data_after}
 use Rattle.chip.proofs.Commands.{word_writes}
 use Rattle.chip.proofs.Runs.{Admitted}
-use Rattle.starts.specs.Starts.{used_of, Start, words_behind, starts_from}
+use Rattle.starts.specs.Starts.{used_of, words_behind, starts_from}
 use Rattle.starts.proofs.Used.{same_due}
 use Rattle.starts.proofs.Law.{words_word, words_other, starts_none, idle_after}
 use Rattle.starts.proofs.After.{after_all}

@@ -4,10 +4,7 @@ use mathlib.Core.Path.{◌≡◌, ap, ◌∙◌}
 use mathlib.Core.Bool.{Bool, true, cond}
 use mathlib.Core.List.{List}
 use borrow.Author.Tests.{ne_eqb}
-use Rattle.blit.specs.Blit.{Blit}
 use Rattle.blit.specs.Job.{performed}
-use Rattle.blit.specs.declared.Job.{Job}
-use Rattle.command.specs.Values.{uses}
 use Rattle.command.proofs.Operation.{is_or_not}
 use Rattle.chip.specs.Start.{operation, by_blit, source_fits, startable, span, within, mix_by, from_by, job_of, write_of, started}
 use Rattle.chip.specs.Admit.{due_after}

@@ -1,16 +1,16 @@
 -- The wear strip on the panel (02, f): compiled, played and read back, each column is its hour's, the newest the rightmost, and each digit is
 -- its glyph.
-use Rattle.std.specs.Prelude.{ℕ, ◌+◌, ◌-◌, ◌*◌, ◌<◌, ◌≤◌, ◌≡◌, Bool, true, false, not, ◌&&◌, ◌||◌, cond, List, length, get_or, leb, eqb}
+use Rattle.std.specs.Prelude.{ℕ, ◌+◌, ◌-◌, ◌*◌, ◌<◌, ◌≤◌, ◌≡◌, Bool, true, false, ◌&&◌, ◌||◌, cond, List, length, get_or, leb, eqb}
 use Rattle.record.specs.Lists.{AllBelow}
 use Rattle.record.specs.Checks.{first_of}
 use Rattle.screen.specs.Screen.{memory_size, fields_of, screen_rows, main_image}
 use Rattle.screen.specs.declared.Image.{Image}
 use Rattle.screen.specs.declared.Screen.{Screen}
-use Rattle.view.specs.View.{Pixel, pixel_at, view_pixel, in_window, among}
+use Rattle.view.specs.View.{pixel_at, view_pixel, in_window, among}
 use Rattle.reader.specs.Read.{reading}
 use Rattle.chip.specs.Play.{playing, played}
 use Rattle.command.specs.Command.{inside_image}
-use Rattle.command.specs.Task.{short_form, Task, task, screen_in, is_accepted}
+use Rattle.command.specs.Task.{short_form, Task, task}
 use Rattle.compiler.specs.Compile.{compiling, stream_of}
 use Rattle.unit.specs.Sheet.{sheet_pixel}
 use Rattle.unit.specs.Demands.{stream_given, display_given}

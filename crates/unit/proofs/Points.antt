@@ -1,5 +1,5 @@
 -- At each panel point of an accepted screen the reader gives what the sheet shows and where it stands, over any memory.
-use mathlib.Core.Path.{◌≡◌, refl, sym, ap, subst, ◌∙◌}
+use mathlib.Core.Path.{◌≡◌, sym, ap, ◌∙◌}
 use mathlib.Core.Bool.{true}
 use mathlib.Core.List.{List}
 use Prim.Native.Nat.{ℕ, ◌-◌, ◌/◌, ◌%◌, ◌≤◌, ◌<◌}
@@ -14,7 +14,7 @@ use Rattle.screen.specs.declared.Screen.{Screen}
 use Rattle.screen.proofs.Accepted.{accepted}
 use Rattle.view.specs.Shows.{shown_bit}
 use Rattle.view.proofs.Demand.{shown_either}
-use Rattle.reader.specs.Read.{Reading, reading, display_of, Stands}
+use Rattle.reader.specs.Read.{Reading, reading, display_of}
 use Rattle.reader.proofs.Accepted.{reads}
 use Rattle.reader.proofs.Answer.{standing}
 use Rattle.unit.specs.Sheet.{sheet_shows, shown_address, shown_place}

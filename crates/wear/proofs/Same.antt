@@ -4,7 +4,7 @@ use mathlib.Core.Path.{◌≡◌, refl, sym, ap, subst, ◌∙◌}
 use mathlib.Core.Bool.{Bool, cond}
 use mathlib.Core.List.{List, [], ◌∷◌}
 use lib.Dec.{eqb}
-use Rattle.ring.specs.Samples.{Sample, accepted, newest_of}
+use Rattle.ring.specs.Samples.{Sample, accepted}
 use Rattle.ring.specs.Kept.{empty_ring, ring_after, hour_in, heights_of}
 use Rattle.ring.specs.Claims.{is_none, TellsOf}
 use Rattle.ring.specs.declared.Ring.{Ring}
