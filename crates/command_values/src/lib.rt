@@ -70,7 +70,7 @@ fn last_column(s: Screen, c: Command) -> u32
     0
 }
 
-fn last_line_lem(s: Screen, c: Command) -> u32
+fn last_line(s: Screen, c: Command) -> u32
     ensures { (result ≡ last_line s c) × (result ≤ 65534) }
 {
     if is_negative(s, c) {
@@ -132,7 +132,7 @@ fn move_value(s: Screen, c: Command) -> u64
 {
     let on = surface_of(s, c);
     let x = c.sx as u32 + last_column(s, c);
-    let y = c.sy as u32 + last_line_lem(s, c);
+    let y = c.sy as u32 + last_line(s, c);
     address_of(s.depth, on, x, y)
 }
 
@@ -158,7 +158,7 @@ fn destination_value(s: Screen, c: Command) -> u64
 {
     let on = surface_of(s, c);
     let x = c.x as u32 + last_column(s, c);
-    let y = c.y as u32 + last_line_lem(s, c);
+    let y = c.y as u32 + last_line(s, c);
     address_of(s.depth, on, x, y)
 }
 

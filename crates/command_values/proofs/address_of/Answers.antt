@@ -1,0 +1,29 @@
+use Prim.Native.Nat.{ℕ, ◌*◌, ◌≤◌}
+use mathlib.Core.Path.{refl}
+use native.Mathlib.Omega.{arith}
+use native.Mathlib.Nat.{mul-le-mul}
+use Rattle.command.specs.Command.{address_of}
+use Rattle.command_values.proofs.address_of.Goals as goal
+
+-- the bytes of the lines above, and the bits of the pixels to the left
+lines : (y line : ℕ) → y ≤ 131070 → line ≤ 4294967295 → y * line ≤ 131070 * 4294967295
+lines y line h n = mul-le-mul {n₂ = 131070} {m₂ = 4294967295} h n
+
+bits : (x depth : ℕ) → x ≤ 131070 → depth ≤ 255 → x * depth ≤ 131070 * 255
+bits x depth h n = mul-le-mul {n₂ = 131070} {m₂ = 255} h n
+
+pub overflow_mul-result : goal.overflow_mul-result
+overflow_mul-result c = omega (arith, lines c.args.y c.args.i.line c.requires.1 (omega arith))
+
+pub overflow_add-result : goal.overflow_add-result
+overflow_add-result c = omega (arith, lines c.args.y c.args.i.line c.requires.1 (omega arith))
+
+pub overflow_mul-result-2 : goal.overflow_mul-result-2
+overflow_mul-result-2 c = omega (arith, bits c.args.x c.args.depth c.requires.0 (omega arith))
+
+pub overflow_add-result-2 : goal.overflow_add-result-2
+overflow_add-result-2 c = omega (arith, lines c.args.y c.args.i.line c.requires.1 (omega arith), bits c.args.x c.args.depth c.requires.0 (omega arith))
+
+pub returns : goal.returns
+unfolding address_of
+returns c = (refl, omega (arith, lines c.args.y c.args.i.line c.requires.1 (omega arith), bits c.args.x c.args.depth c.requires.0 (omega arith)))
