@@ -66,7 +66,7 @@ def main():
             continue
         old = open(p, encoding="utf-8").read()
         if p.endswith(".rt"):
-            new = turn(old)
+            new = turn(old, lambda b, w: re.search("[A-Z-]", w) is not None)
         elif re.search(r"/proofs/[^/]+/[^/]+\.antt$", p):
             new = turn(old, lambda b, w: not b.endswith(".") or b.endswith("{.") or behind_module(b) or w in own)
         else:
