@@ -1,0 +1,15 @@
+use mathlib.Core.Path.{refl, ◌∙◌}
+use Rattle.script.proofs.Laws.{line_next, line_stop, line_last}
+use Rattle.script_code.proofs.line_end.Goals as goal
+
+pub loop-i-init : goal.loop-i-init
+loop-i-init c = refl
+
+pub returns-then-text-i-eq10 : goal.returns-then-text-i-eq10
+returns-then-text-i-eq10 c = line_stop _ _ c.loop-i-test.true c.if-text-i-eq10.true ∙ c.loop-i.invariant
+
+pub loop-i-preserved : goal.loop-i-preserved
+loop-i-preserved c = line_next _ _ c.loop-i-test.true c.if-text-i-eq10.false ∙ c.loop-i.invariant
+
+pub returns : goal.returns
+returns c = line_last _ _ c.loop-i-test.false ∙ c.loop-i.invariant
