@@ -1,0 +1,19 @@
+use native.Mathlib.Numerals.{add-one}
+use native.Mathlib.Omega.{arith}
+use lib.ListN.{length-set}
+use Rattle.blit.proofs.Copy.{copied_none, copied_more, copied_end}
+use Rattle.blit_line.proofs.copy_bytes.Goals as goal
+
+pub loop-i-init : goal.loop-i-init
+loop-i-init c = (omega arith, omega arith, copied_none _ _ _)
+
+pub loop-i-preserved : goal.loop-i-preserved
+loop-i-preserved c = let l = c.loop-i in
+    let a = c.args in (
+      omega arith,
+      simp length-set l.invariant.1,
+      rw add-one (copied_more a.from.now a.at l.i _ l.to l.invariant.2),
+    )
+
+pub returns : goal.returns
+returns c = copied_end _ _ _ _ _ _ c.loop-i.invariant.2 (omega arith)
