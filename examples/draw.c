@@ -1,6 +1,6 @@
 /* Compiles the fill of 01's case B1, plays it, and prints what two panel points show and where in memory that stands.
  *
- *   rt staticlib s1d
+ *   examples/build
  *   gcc -O2 -Iinclude examples/draw.c target/staticlib/libs1d.a -o target/draw && target/draw
  */
 #include <s1d.h>

@@ -1,7 +1,7 @@
 /* Turns a list of two fills into the long form, compiles it in both forms, turns it back, and prints what becomes of it when byte 47 of
  * its second command is not zero.
  *
- *   rt staticlib s1d
+ *   examples/build
  *   gcc -O2 -Iinclude examples/forms.c target/staticlib/libs1d.a -o target/forms && target/forms
  */
 #include <s1d.h>

@@ -1,7 +1,7 @@
 /* Hatches a rectangle by 002's example 17, a keyed pattern fill, copies a part of it by a transparent move, and prints what panel points
  * show; then what becomes of the list when the pattern lies in the rectangle.
  *
- *   rt staticlib s1d
+ *   examples/build
  *   gcc -O2 -Iinclude examples/hatch.c target/staticlib/libs1d.a -o target/hatch && target/hatch
  */
 #include <s1d.h>

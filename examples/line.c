@@ -1,7 +1,7 @@
 /* Draws a bar and prints the panel line by line: upright, then on its side with a window over it; and what becomes of a line buffer that is
  * too short. Colours are characters.
  *
- *   rt staticlib s1d
+ *   examples/build
  *   gcc -O2 -Iinclude examples/line.c target/staticlib/libs1d.a -o target/line && target/line
  */
 #include <s1d.h>

@@ -1,7 +1,7 @@
 /* 001's example 6 on the older units' S1D13706: writes the eighteen registers, puts the six values together from their bytes, and
  * prints what the window's corner shows.
  *
- *   rt staticlib s1d
+ *   examples/build
  *   gcc -O2 -Iinclude examples/older.c target/staticlib/libs1d.a -o target/older && target/older
  */
 #include <s1d.h>

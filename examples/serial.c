@@ -1,7 +1,7 @@
 /* Feeds the stream of 01's case B1 to a player in blocks of 64 bytes, as the cable brings them, and
  * holds memory and answer against those of s1d_play.
  *
- *   rt staticlib s1d
+ *   examples/build
  *   gcc -O2 -Iinclude examples/serial.c target/staticlib/libs1d.a -o target/serial && target/serial
  */
 #include <s1d.h>

@@ -1,7 +1,7 @@
 /* Takes hourly samples, past 65535 and with a gap, makes the wear strip of the last eight hours, draws it, and prints it as the
  * panel shows it: a line of text for ten lines of the columns, then the newest number.
  *
- *   rt staticlib s1d
+ *   examples/build
  *   gcc -O2 -Iinclude examples/strip.c target/staticlib/libs1d.a -o target/strip && target/strip
  */
 #include <s1d.h>
