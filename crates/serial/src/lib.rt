@@ -5,7 +5,7 @@ use chip::{Chip, Registers};
 
 // What is kept between blocks, in plain numbers: every value is a state.
 #[repr(C)]
-#[derive(Drop)]
+#[derive(Clone, Copy)]
 pub struct Player {
     // The screen registers: main start, main offset, window start, window offset, X, Y.
     pub values: [u32; 6],
