@@ -5,7 +5,7 @@ ghost use Rattle.std.specs.Prelude.{◌≡◌, length};
 ghost use Rattle.screen.specs.Screen.{memory_size};
 ghost use Rattle.command.specs.Task.{task};
 ghost use Rattle.reader.specs.Read.{reading_of};
-ghost use Rattle.reader.specs.Read.{answer_of as reader·answerOf};
+ghost use Rattle.reader.specs.Read.{answer_of as point_of};
 ghost use Rattle.unit.specs.Draw.{drawing, drawing_of, answer_of, memory_drawn, stream_drawn, showing};
 
 use chip::Played;
@@ -48,7 +48,7 @@ pub fn draw(
 // What panel point (p, q) of a screen shows over a memory, and where that stands in it.
 pub fn shown(screen: &[u8], p: u32, q: u32, memory: &[u8]) -> PointAnswer
     ensures result_value { reading_of result ≡ showing memory_size screen.now p q memory.now }
-    ensures value { result ≡ reader·answerOf (showing memory_size screen.now p q memory.now) }
+    ensures value { result ≡ point_of (showing memory_size screen.now p q memory.now) }
 {
     if memory.len() != 262144 {
         return PointAnswer::Refused(18);
