@@ -21,7 +21,7 @@ use Rattle.screen.proofs.Read.{accepts, read_accepted}
 use Rattle.screen.proofs.Fits.{values_fit_lem}
 use Rattle.view.specs.Shows.{Shows, shown_bit}
 use Rattle.view.specs.declared.Place.{Place}
-use Rattle.view.proofs.Demand.{demand_2 as view·demand-2}
+use Rattle.view.proofs.Demand.{demand_2 as view_demand_2}
 use Rattle.reader.specs.Read.{looked_at, reading, display_of}
 use Rattle.command.specs.Task.{Task, screen_in, commands_in, task_refusal}
 use Rattle.command.proofs.Task.{Accepted}
@@ -64,7 +64,7 @@ demand_1 =
 pub demand_2 : Demand2
 demand_2 bytes p q e hp hq =
     let r = read_accepted memory_size bytes (fields_of bytes) (sym (accepts memory_size bytes e)) in
-    view·demand-2 memory_size (fields_of bytes) r.2 p q hp hq
+    view_demand_2 memory_size (fields_of bytes) r.2 p q hp hq
 
 pub demand_2_read : Demand2Read
 demand_2_read bytes memory p q e below len hp hq =
@@ -200,7 +200,7 @@ module _ (t : Task) (buffer : List ℕ) (e : (older_compiling t (length buffer))
         shows = λ p q hp hq.
             subst (λ (w : Place). Shows older_memory older.depth w (shown_bit older p q))
             (sym (λ i. looked_at (older_display_lem i) (values_are i) p q))
-            (view·demand-2 older_memory older fine.0 p q hp hq);
+            (view_demand_2 older_memory older fine.0 p q hp hq);
         reads = λ memory bytes len p q hp hq.
             subst (LooksTruly older_memory older memory p q)
             (sym (λ i. reading older_memory (older_display_lem i) (values_are i) p q memory))

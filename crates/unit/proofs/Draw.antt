@@ -19,11 +19,11 @@ use Rattle.compiler.specs.Compile.{stream_of, Compiling, compiling, buffer_after
 use Rattle.compiler.specs.declared.Compiled.{Compiled}
 use Rattle.compiler.specs.declared.Compiled.TheVariants as compiled
 use Rattle.compiler.proofs.Accepted.{compiled_says}
-use Rattle.chip.specs.Play.{Playing, playing, played, playing_of, answer_of as chip·answerOf}
+use Rattle.chip.specs.Play.{Playing, playing, played, playing_of, answer_of as chip_answer_of}
 use Rattle.chip.specs.declared.Played.{Played}
 use Rattle.chip.specs.declared.Played.TheVariants as played
 use Rattle.unit.specs.Demands.{InBytes, DrawnTruly, stream_given}
-use Rattle.unit.specs.Draw.{Drawing, refused_by, drawing, memory_drawn, stream_drawn, drawing_of, answer_of as unit·answerOf}
+use Rattle.unit.specs.Draw.{Drawing, refused_by, drawing, memory_drawn, stream_drawn, drawing_of, answer_of as unit_answer_of}
 use Rattle.unit.specs.Sheet.{sheet_commands, sheet_after}
 use Rattle.unit.specs.declared.Drawn.{Drawn}
 use Rattle.unit.specs.declared.Drawn.TheVariants.{Accepted, Refused}
@@ -43,21 +43,21 @@ refused_number : (n i : ℕ) (c : Compiling) → compiled.Refused n i ≡ answer
 unfolding answer_of
 refused_number n i c e z = true≢false (sym (ap is_accepted (rw (eq-eqb c.number 0 z) at e)))
 
-not_played : (n i : ℕ) (p : Playing) → p.number ≡ 0 → played.Refused n i ≡ chip·answerOf p → ⊥
-unfolding chip·answerOf
+not_played : (n i : ℕ) (p : Playing) → p.number ≡ 0 → played.Refused n i ≡ chip_answer_of p → ⊥
+unfolding chip_answer_of
 not_played n i p z e = true≢false (sym (ap is_played (rw (eq-eqb p.number 0 z) at e)))
 
-played_values : (v : ScreenValues) (p : Playing) → played.Accepted v ≡ chip·answerOf p → playing_of (played.Accepted v) ≡ p → v ≡ p.values
+played_values : (v : ScreenValues) (p : Playing) → played.Accepted v ≡ chip_answer_of p → playing_of (played.Accepted v) ≡ p → v ≡ p.values
 unfolding playing_of
 played_values v p e f = ap (λ (x : Playing). x.values) f
 
 -- an answer whose numbers are a drawing's is the drawing's answer
-refused_answer : (n i : ℕ) (d : Drawing) → (n ≡ 0 → ⊥) → drawing_of (Refused n i) ≡ d → (drawing_of (Refused n i) ≡ d) × (Refused n i ≡ unit·answerOf d)
-unfolding drawing_of unit·answerOf
+refused_answer : (n i : ℕ) (d : Drawing) → (n ≡ 0 → ⊥) → drawing_of (Refused n i) ≡ d → (drawing_of (Refused n i) ≡ d) × (Refused n i ≡ unit_answer_of d)
+unfolding drawing_of unit_answer_of
 refused_answer n i d h e = (e, rw (← e) (rw (ne_eqb n 0 h) refl))
 
-accepted_answer : (n : ℕ) (v : ScreenValues) (d : Drawing) → drawing_of (Accepted n v) ≡ d → (drawing_of (Accepted n v) ≡ d) × (Accepted n v ≡ unit·answerOf d)
-unfolding drawing_of unit·answerOf
+accepted_answer : (n : ℕ) (v : ScreenValues) (d : Drawing) → drawing_of (Accepted n v) ≡ d → (drawing_of (Accepted n v) ≡ d) × (Accepted n v ≡ unit_answer_of d)
+unfolding drawing_of unit_answer_of
 accepted_answer n v d e = (e, rw (← e) refl)
 
 -- both cases alike
@@ -80,7 +80,7 @@ module _ (t : Task) (old memory : List ℕ) where
   abbrev pub Drew : Drawn → List ℕ → List ℕ → Type 0
   Drew r stream new =
       (drawing_of r ≡ drawing memory_size t (length old) memory)
-      × ((r ≡ unit·answerOf (drawing memory_size t (length old) memory))
+      × ((r ≡ unit_answer_of (drawing memory_size t (length old) memory))
       × ((stream ≡ stream_drawn memory_size t old memory)
       × (new ≡ memory_drawn memory_size t (length old) memory)))
 
@@ -134,7 +134,7 @@ module _ (t : Task) (old memory : List ℕ) where
         zero = ap (λ (x : List ℕ). (playing memory_size x memory).number) given ∙ truly.not_refused
 
         -- playing does not refuse
-        pub play_accepts : (k i : ℕ) → played.Refused k i ≡ chip·answerOf (playing memory_size part memory) → ⊥
+        pub play_accepts : (k i : ℕ) → played.Refused k i ≡ chip_answer_of (playing memory_size part memory) → ⊥
         play_accepts k i h = not_played k i (playing memory_size part memory) zero h
 
         pub draw_accepted : (v : ScreenValues) (new : List ℕ) → playing_of (played.Accepted v) ≡ playing memory_size part memory → new ≡ played memory_size part memory

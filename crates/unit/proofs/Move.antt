@@ -9,7 +9,7 @@ use lib.Dec.{eqb, ltb, lit<}
 use Rattle.screen.specs.declared.Image.{Image}
 use Rattle.screen.specs.declared.Screen.{Screen}
 use Rattle.blit.specs.Blit.{Blit, memory, chip_blit, towards, starting}
-use Rattle.blit.specs.Job.{mix_of, source_of as blit·sourceOf, blit_of, performed}
+use Rattle.blit.specs.Job.{mix_of, source_of as blit_source_of, blit_of, performed}
 use Rattle.blit.specs.declared.From.{From}
 use Rattle.blit.specs.declared.Mix.{Mix}
 use Rattle.blit.specs.declared.Mix.TheVariants.{Raster}
@@ -103,14 +103,14 @@ module _ (m B : ℕ) (s : Screen) (c : Command) (d : Drawable m B s c) (e : c.op
       ap (λ (x : Mix). mix_of x (bytes_of regs)) (either_way _ _ _ _ _ _ _)
       ∙ (λ k. mix_of (Raster (code_is m B s c d (move_number t) (move_number_lem t) value k)) (bytes_is m B s c d k))
 
-  from_is : (bytes : ℕ) (old : List ℕ) → blit·sourceOf (from_by regs) bytes old ≡ memory (source_corner m B s c d + shift m B s c d t)
+  from_is : (bytes : ℕ) (old : List ℕ) → blit_source_of (from_by regs) bytes old ≡ memory (source_corner m B s c d + shift m B s c d t)
   unfolding from_by
-  from_is bytes old = ap (λ (f : From). blit·sourceOf f bytes old) (either_way _ _ _ _ _ _ _) ∙ ap memory (source_is m B s c d t way (inl e))
+  from_is bytes old = ap (λ (f : From). blit_source_of f bytes old) (either_way _ _ _ _ _ _ _) ∙ ap memory (source_is m B s c d t way (inl e))
 
-  job_is : (old : List ℕ) → blit_of (job_of regs) (blit·sourceOf (job_of regs).from (job_of regs).bytes old) ≡ starting (towards t) move
+  job_is : (old : List ℕ) → blit_of (job_of regs) (blit_source_of (job_of regs).from (job_of regs).bytes old) ≡ starting (towards t) move
   unfolding job_of blit_of
   job_is old =
-      read_back m B s c d (mix_of (mix_by regs) (bytes_of regs)) (mix_of (Raster c.raster) B) (blit·sourceOf (from_by regs) (bytes_of regs) old) (memory (source_corner m B s c d + shift m B s c d t))
+      read_back m B s c d (mix_of (mix_by regs) (bytes_of regs)) (mix_of (Raster c.raster) B) (blit_source_of (from_by regs) (bytes_of regs) old) (memory (source_corner m B s c d + shift m B s c d t))
       (corner s c B + shift m B s c d t) mix_is (from_is (bytes_of regs) old) (destination_is m B s c d t way)
       ∙ sym (started_at t)
 

@@ -27,7 +27,7 @@ use Rattle.blit.specs.Words.{word_pixel, host_pixel}
 use Rattle.command.specs.Command.{surface_of, line_words}
 use Rattle.command.specs.declared.Command.{Command}
 use Rattle.command.proofs.Operation.{by_fill, by_move, by_write, by_pattern, by_keyed, by_transparent}
-use Rattle.unit.specs.Sheet.{sheet_pixel, sheet_source, sheet_mix, new_pixel, changes, sheet_byte, sheet_command, host_pixel as sheet·hostPixel, pattern_image, pattern_pixel as sheet·patternPixel}
+use Rattle.unit.specs.Sheet.{sheet_pixel, sheet_source, sheet_mix, new_pixel, changes, sheet_byte, sheet_command, host_pixel as sheet_host_pixel, pattern_image, pattern_pixel as sheet_pattern_pixel}
 use Rattle.unit.proofs.Rectangles.{Frame, At, inside_own, inside_surface, same_inside, from_own, own_line, own_column, own_lane, surface_line, surface_column, surface_lane}
 
 -- equal tests, and equal values where they hold
@@ -91,8 +91,8 @@ host_two width words few i j =
     sym ((λ t. word_pixel 2 (get_or words (j * two t + div-one i t) 0) (none t)) ∙ word_whole (get_or words (j * width + i) 0) (few _))
 
 host_is : (d B : ℕ) → d ≡ 8 * B → OneOrTwo B → (width : ℕ) (words : List ℕ) → ((k : ℕ) → get_or words k 0 < 65536) → (i j : ℕ)
-    → sheet·hostPixel d width words i j ≡ host_pixel B width words i j
-unfolding sheet·hostPixel line_words
+    → sheet_host_pixel d width words i j ≡ host_pixel B width words i j
+unfolding sheet_host_pixel line_words
 host_is d B h size width words few i j =
     ⊎_elim
     (λ e.
@@ -227,8 +227,8 @@ module _ (s : Screen) (c : Command) (words old : List ℕ) (B : ℕ) (deep : s.d
   transparent_source e i j = sym (by_transparent c.operation _ _ _ _ _ _ e ∙ held c.sx c.sy i j)
 
   -- a pattern's pixel, from its address and from its image
-  of_pattern : (i j : ℕ) → pattern_pixel B old c.pattern (c.px + i) (c.py + j) ≡ sheet·patternPixel s.depth c old i j
-  unfolding pattern_pixel sheet·patternPixel
+  of_pattern : (i j : ℕ) → pattern_pixel B old c.pattern (c.px + i) (c.py + j) ≡ sheet_pattern_pixel s.depth c old i j
+  unfolding pattern_pixel sheet_pattern_pixel
   of_pattern i j =
       let u = (c.px + i) % 8 in
       let v = (c.py + j) % 8 in

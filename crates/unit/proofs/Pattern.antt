@@ -10,7 +10,7 @@ use lib.Dec.{eqb, lit<}
 use borrow.Author.Tests.{eq-eqb, le-leb}
 use Rattle.screen.specs.declared.Screen.{Screen}
 use Rattle.blit.specs.Blit.{Blit, given, chip_blit, towards}
-use Rattle.blit.specs.Job.{mix_of, pattern_pixel, source_of as blit·sourceOf, blit_of, performed}
+use Rattle.blit.specs.Job.{mix_of, pattern_pixel, source_of as blit_source_of, blit_of, performed}
 use Rattle.blit.specs.Rectangle.{painted}
 use Rattle.blit.specs.declared.From.TheVariants.{Pattern}
 use Rattle.blit.specs.declared.Mix.{Mix}
@@ -172,13 +172,13 @@ module _ (m B : ℕ) (s : Screen) (c : Command) (d : Drawable m B s c) (k : Bool
   unfolding job_of
   down_is = ap (λ (n : ℕ). eqb n 3) op ∙ not_down k
 
-  job_is : (old : List ℕ) → blit_of (job_of regs) (blit·sourceOf (job_of regs).from (job_of regs).bytes old)
+  job_is : (old : List ℕ) → blit_of (job_of regs) (blit_source_of (job_of regs).from (job_of regs).bytes old)
       ≡ over s c B (mix_of (mixed k) B) (given (λ i j. pattern_pixel B old c.pattern (c.px + i) (c.py + j)))
   unfolding job_of blit_of
   job_is old =
-      read_back m B s c d (mix_of (mix_by regs) (bytes_of regs)) (mix_of (mixed k) B) (blit·sourceOf (from_by regs) (bytes_of regs) old)
+      read_back m B s c d (mix_of (mix_by regs) (bytes_of regs)) (mix_of (mixed k) B) (blit_source_of (from_by regs) (bytes_of regs) old)
       (given (λ i j. pattern_pixel B old c.pattern (c.px + i) (c.py + j))) (corner s c B)
-      (λ t. mix_of (mix_is t) (bytes_is m B s c d t)) (λ t. blit·sourceOf (from_is t) (bytes_is m B s c d t) old)
+      (λ t. mix_of (mix_is t) (bytes_is m B s c d t)) (λ t. blit_source_of (from_is t) (bytes_is m B s c d t) old)
       (destination_is m B s c d false up ∙ omega arith)
 
   drawn : AtOnce m B s c d

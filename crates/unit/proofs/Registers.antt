@@ -16,7 +16,7 @@ use Rattle.blit.specs.Blit.{Blit, Source}
 use Rattle.blit.proofs.Painted.{Fits}
 use Rattle.chip.specs.Register.{control_fits, command_fits}
 use Rattle.chip.proofs.Commands.{InFields}
-use Rattle.chip.specs.Start.{operation, raster_code, bytes_of, source_of as chip·sourceOf, destination_of as chip·destinationOf, key_of, line_of, width_of, height_of, whole_at, startable, span, forward, backward, within, started}
+use Rattle.chip.specs.Start.{operation, raster_code, bytes_of, source_of as chip_source_of, destination_of as chip_destination_of, key_of, line_of, width_of, height_of, whole_at, startable, span, forward, backward, within, started}
 use Rattle.chip.specs.declared.Registers.{Registers}
 use Rattle.command.specs.Command.{surface_of, address_of, destination_of, source_of, rectangle_at}
 use Rattle.command.specs.Sharing.{share_byte}
@@ -248,15 +248,15 @@ module _ (m B : ℕ) (s : Screen) (c : Command) (d : Drawable m B s c) where
     unfolding destination_value last_column last_line
     destination_value_lem = rw way (start_at t c.x c.y)
 
-    pub destination_is : chip·destinationOf regs ≡ corner s c B + shift t
+    pub destination_is : chip_destination_of regs ≡ corner s c B + shift t
     unfolding blit_registers_of
     destination_is = (start_read t (destination_value s c) (corner s c B) destination_value_lem corner_inside).0
 
-    pub destination_whole : whole_at regs (chip·destinationOf regs) ≡ true
-    destination_whole = start_whole t (chip·destinationOf regs) c.x c.y destination_is
+    pub destination_whole : whole_at regs (chip_destination_of regs) ≡ true
+    destination_whole = start_whole t (chip_destination_of regs) c.x c.y destination_is
 
-    pub destination_reaches : cond t (backward m regs (chip·destinationOf regs)) (forward m regs (chip·destinationOf regs)) ≡ true
-    destination_reaches = start_reaches t (chip·destinationOf regs) (corner s c B) destination_is corner_inside
+    pub destination_reaches : cond t (backward m regs (chip_destination_of regs)) (forward m regs (chip_destination_of regs)) ≡ true
+    destination_reaches = start_reaches t (chip_destination_of regs) (corner s c B) destination_is corner_inside
 
     -- a move's source; a transparent move goes in positive direction
     module _ (e : Moves c) where
@@ -272,15 +272,15 @@ module _ (m B : ℕ) (s : Screen) (c : Command) (d : Drawable m B s c) where
           (λ z. by_transparent c.operation _ _ _ _ _ _ z ∙ address_is s.depth B on c.sx c.sy d.deep ∙ omega (arith, no_shift z))
           e
 
-      pub source_is : chip·sourceOf regs ≡ source_corner + shift t
+      pub source_is : chip_source_of regs ≡ source_corner + shift t
       unfolding blit_registers_of
       source_is = (start_read t (used_value c.operation 0x800C (source_value s c)) source_corner (source_used s c ∙ source_value_lem) (source_inside e)).0
 
-      pub source_whole : whole_at regs (chip·sourceOf regs) ≡ true
-      source_whole = start_whole t (chip·sourceOf regs) c.sx c.sy source_is
+      pub source_whole : whole_at regs (chip_source_of regs) ≡ true
+      source_whole = start_whole t (chip_source_of regs) c.sx c.sy source_is
 
-      pub source_reaches : cond t (backward m regs (chip·sourceOf regs)) (forward m regs (chip·sourceOf regs)) ≡ true
-      source_reaches = start_reaches t (chip·sourceOf regs) source_corner source_is (source_inside e)
+      pub source_reaches : cond t (backward m regs (chip_source_of regs)) (forward m regs (chip_source_of regs)) ≡ true
+      source_reaches = start_reaches t (chip_source_of regs) source_corner source_is (source_inside e)
 
       pub source_fits_lem : source_value s c ≤ 0x3FFFF
       source_fits_lem = (start_read t (source_value s c) source_corner source_value_lem (source_inside e)).1
@@ -311,9 +311,9 @@ module _ (m B : ℕ) (s : Screen) (c : Command) (d : Drawable m B s c) where
         control_odd false = refl
 
   -- the blit that the registers say is one of the command's size and line length
-  pub read_back : (f g : ℕ → ℕ → ℕ) (p q : Source) (a : ℕ) → f ≡ g → p ≡ q → chip·destinationOf regs ≡ a
+  pub read_back : (f g : ℕ → ℕ → ℕ) (p q : Source) (a : ℕ) → f ≡ g → p ≡ q → chip_destination_of regs ≡ a
       → ◌≡◌ {A = Blit}
-      (record { bytes = bytes_of regs; line = line_of regs; width = width_of regs; height = height_of regs; combine = f; source = p; destination = chip·destinationOf regs })
+      (record { bytes = bytes_of regs; line = line_of regs; width = width_of regs; height = height_of regs; combine = f; source = p; destination = chip_destination_of regs })
       (record { bytes = B; line = on.line; width = c.width; height = c.height; combine = g; source = q; destination = a })
   read_back f g p q a ef ep ea =
       λ t. record {

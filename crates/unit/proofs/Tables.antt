@@ -27,11 +27,11 @@ use Rattle.older.proofs.Outcome.{lent_numbered, number_is, place_is}
 use Rattle.chip.specs.Admit.{admit_rows, chip_after}
 use Rattle.chip.specs.Play.{new_chip, run, refused_by, ending, playing}
 use Rattle.chip.specs.declared.Chip.{Chip}
-use Rattle.chip.proofs.Admits.{numbered as admit·numbered}
+use Rattle.chip.proofs.Admits.{numbered as admit_numbered}
 use Rattle.chip.proofs.Tables.{Says, table_end, table_step}
 use Rattle.reader.specs.Read.{read_rows, reading}
 use Rattle.reader.specs.declared.Display.{Display}
-use Rattle.reader.proofs.Answer.{numbered as read·numbered, number_is as read·number-is, place_is as read·place-is}
+use Rattle.reader.proofs.Answer.{numbered as read_numbered, number_is as read_number_is, place_is as read_place_is}
 use Rattle.unit.specs.Tables.{listed_rows, task_rows, compile_rows, record_rows, play_rows}
 use Rattle.unit.specs.Demands.{Decided}
 
@@ -57,7 +57,7 @@ room_numbered t room = (lit< tt, tt)
 record_numbered : (m : ℕ) (c : Chip) (i : ℕ) (rs : List Record) → Numbered (record_rows m c i rs)
 unfolding record_rows rows_at Numbered
 record_numbered m c i [] = (lit< tt, tt)
-record_numbered m c i (r ∷ rs) = numbered_append (rows_at i (admit_rows m c r)) _ (numbered_at i (admit_rows m c r) (admit·numbered m c r)) (record_numbered m (chip_after c r) (suc i) rs)
+record_numbered m c i (r ∷ rs) = numbered_append (rows_at i (admit_rows m c r)) _ (numbered_at i (admit_rows m c r) (admit_numbered m c r)) (record_numbered m (chip_after c r) (suc i) rs)
 
 -- ---- rows that name no place
 screen_placeless : (m : ℕ) (bytes : List ℕ) → Placeless (screen_rows m bytes)
@@ -264,6 +264,6 @@ module _ (m : ℕ) (stream memory : List ℕ) where
 pub read_decided : (m : ℕ) (d : Display) (v : ScreenValues) (p q : ℕ) (memory : List ℕ)
     → Decided (reading m d v p q memory).number (reading m d v p q memory).place (read_rows m d v p q (length memory))
 read_decided m d v p q memory =
-    decided (read·number-is m d v p q memory)
-    (read·place-is m d v p q memory ∙ sym (placeless (read_rows m d v p q (length memory)) (read_placeless m d v p q memory)))
-    (read·numbered m d v p q (length memory))
+    decided (read_number_is m d v p q memory)
+    (read_place_is m d v p q memory ∙ sym (placeless (read_rows m d v p q (length memory)) (read_placeless m d v p q memory)))
+    (read_numbered m d v p q (length memory))

@@ -11,7 +11,7 @@ use Rattle.screen.specs.Image.{line_bytes}
 use Rattle.screen.specs.declared.Image.{Image}
 use Rattle.screen.specs.declared.Screen.{Screen}
 use Rattle.blit.specs.Blit.{Blit, memory, chip_blit, towards}
-use Rattle.blit.specs.Job.{mix_of, source_of as blit·sourceOf, blit_of}
+use Rattle.blit.specs.Job.{mix_of, source_of as blit_source_of, blit_of}
 use Rattle.blit.specs.Rectangle.{inside}
 use Rattle.blit.specs.declared.Mix.TheVariants.{Key}
 use Rattle.blit.proofs.Direction.{OfSource, Ahead, ahead_of, apart, positive_is_painted}
@@ -115,7 +115,7 @@ module _ (m B : ℕ) (s : Screen) (c : Command) (d : Drawable m B s c) (e : c.op
       (d.source_apart e)
 
   -- ---- what it does
-  job_is : (old : List ℕ) → blit_of (job_of regs) (blit·sourceOf (job_of regs).from (job_of regs).bytes old) ≡ move
+  job_is : (old : List ℕ) → blit_of (job_of regs) (blit_source_of (job_of regs).from (job_of regs).bytes old) ≡ move
   unfolding job_of blit_of mix_by from_by
   job_is old =
       rw op
