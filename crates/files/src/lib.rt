@@ -2,14 +2,26 @@
 // and whether it can be read or written, are the system's: a contract names them, and says what holds of them.
 #![tactic(auto)]
 
-ghost use Rattle.std.specs.Prelude.{◌≡◌, cond, ◌+◌, ◌≤◌, length, replicate};
+mod reason;
+
+ghost use Rattle.std.specs.Prelude.{◌≡◌, cond, ◌+◌, ◌≤◌, length, replicate, IfOk};
+ghost use Rattle.io.specs.Counts.{IsPrefixLen};
 ghost use Rattle.files.specs.System.{YesOrNo, LoadedBytes, LoadedWords, LoadedMemory, GivenNumber};
 
-use libc::{STDERR_FILENO, STDOUT_FILENO};
+use reason::{Failure, Line};
+use std::env::FillError;
+use std::fs;
+use std::io::{Error, Read, Result};
+use std::rt::{Env, Files};
 use text::Number;
 
 // The most host words that a program takes.
 const MOST_WORDS: usize = 262144;
+
+// The system's numbers for an argument that is missing, and for one that is too long.
+const MISSING: i32 = 22;
+
+const TOO_LONG: i32 = 36;
 
 // Whether all went well, and how many numbers of the buffer were filled.
 #[derive(Drop)]
@@ -59,78 +71,120 @@ pub fn memory() -> [u8; 262145]
 }
 
 // Writes a line to standard error: what is wrong, and how.
-pub fn say(what: &[u8], how: &[u8]) {
-    io::write_all(STDERR_FILENO, what);
-    io::write_all(STDERR_FILENO, b": ");
-    io::write_all(STDERR_FILENO, how);
-    io::write_all(STDERR_FILENO, b"\n");
+pub fn say(rt: &impl Eprint, what: &[u8], how: &[u8]) {
+    let _ = rt.eprintln(Line { what, how });
+}
+
+// Writes a line to standard error: what failed, and the system's reason.
+fn fail(rt: &impl Eprint, what: &[u8], why: Error) {
+    let _ = rt.eprintln(Failure { what, why });
 }
 
 // Writes bytes to standard output, or says on standard error why it could not; answers whether it could.
-pub fn print(text: &[u8]) -> bool
+pub fn print(rt: &(impl Print + Eprint), text: &[u8]) -> bool
     ensures { YesOrNo result }
 {
-    if io::write_all(STDOUT_FILENO, text) {
-        return true;
+    if let Err(why) = rt.write_all(text) {
+        fail(rt, b"standard output", why);
+        return false;
     }
-    os::fail(b"standard output");
-    false
+    true
 }
 
 // Writes the line of a refusal, at most 128 bytes.
-pub fn print_refusal(number: u64, place: u64) {
+pub fn print_refusal(rt: &(impl Print + Eprint), number: u64, place: u64) {
     let mut line = [0u8; 128];
     let n = text_code::put_refusal(number, place, &mut line);
-    print(&line[..n]);
+    print(rt, &line[..n]);
 }
 
-// Whether a read finds the end of the input, and no error.
-fn at_end(fd: i32) -> bool
-    ensures { YesOrNo result }
+// Reads until the buffer is full or the input ends; answers how many bytes stand at the buffer's start.
+pub fn read_full(input: &mut impl Read, buffer: &mut [u8]) -> Result<usize>
+    ensures { IfOk result (λ n. IsPrefixLen n buffer.new) }
 {
-    let mut one = [0u8; 1];
-    libc::read(fd, &mut one) == 0
+    let mut done = 0;
+    while done < buffer.len() {
+        let n = input.read(&mut buffer[done..])?;
+        if n == 0 {
+            break;
+        }
+        done += n;
+    }
+    Ok(done)
+}
+
+// Reads the file of a name into the buffer, as much of it as there is room for; answers how many bytes.
+fn read_file(rt: &impl Files, name: &str, buffer: &mut [u8]) -> Result<usize>
+    ensures { IfOk result (λ n. IsPrefixLen n buffer.new) }
+{
+    let mut file = fs::open(rt, name)?;
+    read_full(&mut file, buffer)
 }
 
 // Reads a file into the buffer, as much of it as there is room for; or says why it cannot be read.
-fn load_path(path: &[u8], buffer: &mut [u8]) -> Loaded
+fn load_path(rt: &(impl Files + Eprint), path: &[u8], buffer: &mut [u8]) -> Loaded
     ensures { LoadedBytes buffer.old buffer.new result }
 {
-    let fd = os::open_read(path);
-    if fd < 0 {
-        os::fail(path);
+    let Ok(name) = str::from_utf8(path) else {
+        say(rt, b"argument", b"not UTF-8");
         return Loaded { ok: false, n: 0 };
-    }
-    let n = io::read_full(fd, buffer);
-    let ok = n == buffer.len() || at_end(fd);
-    if !ok {
-        os::fail(path);
-        libc::close(fd);
-        return Loaded { ok: false, n: 0 };
-    }
-    libc::close(fd);
+    };
+    let n = match read_file(rt, name, buffer) {
+        Ok(n) => n,
+        Err(why) => {
+            fail(rt, path, why);
+            return Loaded { ok: false, n: 0 };
+        }
+    };
     Loaded { ok: true, n }
 }
 
 // Reads the file that argument i names.
-pub fn load(i: usize, buffer: &mut [u8]) -> Loaded
+pub fn load(rt: &(impl Env + Files + Eprint), i: usize, buffer: &mut [u8]) -> Loaded
     ensures { LoadedBytes buffer.old buffer.new result }
 {
-    let mut path = io::buffer();
-    let n = os::arg(i, &mut path);
-    if os::errno() != 0 {
-        os::fail(b"argument");
-        return Loaded { ok: false, n: 0 };
+    let mut path = [0u8; 4096];
+    match rt.arg(i, &mut path) {
+        Ok(n) => load_path(rt, &path[..n], buffer),
+        Err(why) => {
+            fail(rt, b"argument", argument_error(why));
+            Loaded { ok: false, n: 0 }
+        }
     }
-    load_path(&path[..n], buffer)
+}
+
+// Why argument i cannot be had, as the system says it.
+fn argument_error(why: FillError) -> Error {
+    match why {
+        FillError::NotPresent => Error::from_raw_os_error(MISSING),
+        FillError::TooLong => Error::from_raw_os_error(TOO_LONG),
+    }
+}
+
+// How many arguments there are, the program's name among them.
+pub fn arg_count(rt: &impl Env) -> usize {
+    let mut one = [0u8; 1];
+    for i in 0..usize::MAX {
+        if let Err(FillError::NotPresent) = rt.arg(i, &mut one) {
+            return i;
+        }
+    }
+    usize::MAX
+}
+
+// Stores argument i; answers its bytes, 0 where there is none or it has no room.
+fn argument(rt: &impl Env, i: usize, path: &mut [u8]) -> usize
+    ensures { IsPrefixLen result path.new }
+{
+    rt.arg(i, path).unwrap_or(0)
 }
 
 // Whether argument i is a word.
-pub fn is_word(i: usize, word: &[u8]) -> bool
+pub fn is_word(rt: &impl Env, i: usize, word: &[u8]) -> bool
     ensures { YesOrNo result }
 {
-    let mut path = io::buffer();
-    let n = os::arg(i, &mut path);
+    let mut path = [0u8; 4096];
+    let n = argument(rt, i, &mut path);
     check::same(&path[..n], word)
 }
 
@@ -151,31 +205,31 @@ pub fn behind(i: usize, word: bool, n: usize) -> usize
 }
 
 // Whether argument i is left out: there is none, or it is a single `-`.
-pub fn is_left_out(i: usize) -> bool
+pub fn is_left_out(rt: &impl Env, i: usize) -> bool
     ensures { YesOrNo result }
 {
-    os::arg_count() <= i || is_word(i, b"-")
+    arg_count(rt) <= i || is_word(rt, i, b"-")
 }
 
 // Reads the host words of the file that argument i names, two bytes each; none where it is left out.
-pub fn load_words(i: usize, words: &mut [u16; 262144]) -> Loaded
+pub fn load_words(rt: &(impl Env + Files + Eprint), i: usize, words: &mut [u16; 262144]) -> Loaded
     ensures { LoadedWords words.old words.new result }
 {
-    if is_left_out(i) {
+    if is_left_out(rt, i) {
         return Loaded { ok: true, n: 0 };
     }
     let mut bytes = word_bytes();
-    let b = load(i, &mut bytes);
+    let b = load(rt, i, &mut bytes);
     let n = b.n;
     if !b.ok {
         return Loaded { ok: false, n: 0 };
     }
     if 2 * MOST_WORDS < n {
-        say(b"host words", b"more than 262144");
+        say(rt, b"host words", b"more than 262144");
         return Loaded { ok: false, n: 0 };
     }
     if n % 2 != 0 {
-        say(b"host words", b"an odd number of bytes");
+        say(rt, b"host words", b"an odd number of bytes");
         return Loaded { ok: false, n: 0 };
     }
     let k = text_lines::words_of(&bytes[..n], words);
@@ -183,21 +237,21 @@ pub fn load_words(i: usize, words: &mut [u16; 262144]) -> Loaded
 }
 
 // The display memory of the file that argument i names; 262,144 bytes as they are where it is left out.
-pub fn load_memory(i: usize, memory: &mut [u8]) -> Loaded
+pub fn load_memory(rt: &(impl Env + Files + Eprint), i: usize, memory: &mut [u8]) -> Loaded
     ensures { LoadedMemory memory.old memory.new result }
 {
-    if is_left_out(i) {
+    if is_left_out(rt, i) {
         let n = io::count(262144, memory);
         return Loaded { ok: true, n };
     }
-    load(i, memory)
+    load(rt, i, memory)
 }
 
 // The number that argument i gives: none where it is left out or longer than a path.
-pub fn number(i: usize) -> Number
+pub fn number(rt: &impl Env, i: usize) -> Number
     ensures { GivenNumber result }
 {
-    let mut path = io::buffer();
-    let n = os::arg(i, &mut path);
+    let mut path = [0u8; 4096];
+    let n = argument(rt, i, &mut path);
     text_lines::number_of(&path[..n])
 }
