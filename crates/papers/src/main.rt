@@ -3,52 +3,69 @@
 // differ, and the verdict; and at the end whether all was as the papers have it.
 #![tactic(auto)]
 
+ghost use Rattle.io.specs.Counts.{IsPrefixLen};
+
 use chip::Played;
 use compiler::Compiled;
-use libc::{STDIN_FILENO, STDOUT_FILENO};
 use script::Tally;
+use std::io::Read;
 
-fn main() {
+fn main(rt: HostRuntime) {
     let mut script = io::large_buffer();
-    let n = io::read_full(STDIN_FILENO, &mut script);
-    run(&script[..n]);
+    let n = read_script(&mut rt.reader(), &mut script);
+    run(&rt, &script[..n]);
+}
+
+// Reads until the buffer is full, the input ends or a read fails; answers how many bytes stand at the buffer's start.
+fn read_script(input: &mut impl Read, script: &mut [u8]) -> usize
+    ensures { IsPrefixLen result script.new }
+{
+    let mut done = 0;
+    while done < script.len() {
+        let n = input.read(&mut script[done..]).unwrap_or(0);
+        if n == 0 {
+            break;
+        }
+        done += n;
+    }
+    done
 }
 
 // Writes a text.
-fn write(text: &[u8]) {
-    io::write_all(STDOUT_FILENO, text);
+fn write(rt: &impl Print, text: &[u8]) {
+    let _ = rt.write_all(text);
 }
 
 // Writes one of two texts.
-fn write_either(ok: bool, yes: &[u8], no: &[u8]) {
+fn write_either(rt: &impl Print, ok: bool, yes: &[u8], no: &[u8]) {
     if ok {
-        write(yes);
+        write(rt, yes);
     } else {
-        write(no);
+        write(rt, no);
     }
 }
 
 // Writes an example's name, a line that is not as the papers have it, and at an example's end whether all of it was.
-fn write_line(k: u32, line: &[u8], ok: bool, example: bool) {
+fn write_line(rt: &impl Print, k: u32, line: &[u8], ok: bool, example: bool) {
     if k == script_steps::EXAMPLE && 8 <= line.len() {
-        write(&line[8..]);
+        write(rt, &line[8..]);
     }
     if !ok {
-        write(b"\n  differs: ");
-        write(line);
+        write(rt, b"\n  differs: ");
+        write(rt, line);
     }
     if k == script_verdict::DONE {
-        write_either(example, b": ok\n", b"\n: differs\n");
+        write_either(rt, example, b": ok\n", b"\n: differs\n");
     }
 }
 
 // Writes whether all was as the papers have it.
-fn write_end(all: bool) {
-    write_either(all, b"all ok\n", b"not all ok\n");
+fn write_end(rt: &impl Print, all: bool) {
+    write_either(rt, all, b"all ok\n", b"not all ok\n");
 }
 
 // Takes the steps, line by line. Each function does its part of a step, if it has one.
-fn run(script: &[u8]) {
+fn run(rt: &impl Print, script: &[u8]) {
     let mut desk = [0u8; 92];
     let mut words = [0u16; 1001];
     let mut stream = [0u8; 16384];
@@ -77,7 +94,7 @@ fn run(script: &[u8]) {
             k, line, compiled, played, &desk, &stream, &memory, &kept,
         );
         tally = script_verdict::judge(k, tally, ok);
-        write_line(k, line, ok, tally.example);
+        write_line(rt, k, line, ok, tally.example);
     }
-    write_end(tally.all);
+    write_end(rt, tally.all);
 }
