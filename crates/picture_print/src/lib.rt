@@ -7,31 +7,37 @@ use reader::Display;
 use screen::ScreenValues;
 
 // Writes the picture's head; answers whether it could.
-fn print_head(d: Display) -> bool
+fn print_head(rt: &(impl Print + Eprint), d: Display) -> bool
     ensures { YesOrNo result }
 {
     let mut line = [0u8; 64];
     let n = picture_code::put_head(d, &mut line);
-    files::print(&line[..n])
+    files::print(rt, &line[..n])
 }
 
 // Writes line q of the picture, at most 1,024 points of three bytes; answers whether it could.
-fn print_line(d: Display, values: ScreenValues, q: u32, memory: &[u8]) -> bool
+fn print_line(
+    rt: &(impl Print + Eprint),
+    d: Display,
+    values: ScreenValues,
+    q: u32,
+    memory: &[u8],
+) -> bool
     ensures { YesOrNo result }
 {
     let mut line = [0u8; 3072];
     let n = picture_code::put_points(d, values, q, memory, &mut line);
-    files::print(&line[..n])
+    files::print(rt, &line[..n])
 }
 
 // The whole picture.
-pub fn print_picture(d: Display, values: ScreenValues, memory: &[u8]) {
-    if !print_head(d) {
+pub fn print_picture(rt: &(impl Print + Eprint), d: Display, values: ScreenValues, memory: &[u8]) {
+    if !print_head(rt, d) {
         return;
     }
     let mut q = 0;
     while q < d.height {
-        if !print_line(d, values, q, memory) {
+        if !print_line(rt, d, values, q, memory) {
             return;
         }
         q += 1;
@@ -39,8 +45,15 @@ pub fn print_picture(d: Display, values: ScreenValues, memory: &[u8]) {
 }
 
 // The line of panel point (p, q), or of its refusal, at most 128 bytes.
-pub fn print_point(d: Display, values: ScreenValues, p: u32, q: u32, memory: &[u8]) {
+pub fn print_point(
+    rt: &(impl Print + Eprint),
+    d: Display,
+    values: ScreenValues,
+    p: u32,
+    q: u32,
+    memory: &[u8],
+) {
     let mut line = [0u8; 128];
     let n = picture_code::put_answer(d, values, p, q, memory, &mut line);
-    files::print(&line[..n]);
+    files::print(rt, &line[..n]);
 }
