@@ -17,23 +17,24 @@ ghost use Rattle.files.specs.System.{YesOrNo, LoadedBytes};
 ghost use Rattle.compile.specs.Chip.{compiling_for, buffer_for};
 
 use files::Loaded;
+use std::rt::{Env, Files};
 
 // Prints the lines of a part of a stream, at most 1,024 of them; answers whether it could.
-fn print_lines(part: &[u8]) -> bool
+fn print_lines(rt: &(impl Print + Eprint), part: &[u8]) -> bool
     ensures { YesOrNo result }
 {
     let mut buffer = [0u8; 18432];
     let n = text_lines::put_lines(part, &mut buffer);
-    files::print(&buffer[..n])
+    files::print(rt, &buffer[..n])
 }
 
 // Prints the lines of a stream.
-fn print_stream(stream: &[u8]) {
+fn print_stream(rt: &(impl Print + Eprint), stream: &[u8]) {
     let mut at = 0;
     while at < stream.len() {
         let room = record_code::least(8192, stream.len() - at);
         let end = at + room;
-        if !print_lines(&stream[at..end]) {
+        if !print_lines(rt, &stream[at..end]) {
             return;
         }
         at = end;
@@ -41,14 +42,14 @@ fn print_stream(stream: &[u8]) {
 }
 
 // Prints the bytes of a refused command, if there is one.
-fn print_part(part: &[u8]) {
+fn print_part(rt: &(impl Print + Eprint), part: &[u8]) {
     if part.len() == 0 {
         return;
     }
     let mut bytes = [b' '; 144];
     let n = text_lines::put_bytes(part, &mut bytes);
     bytes[n - 1] = b'\n';
-    files::print(&bytes[..n]);
+    files::print(rt, &bytes[..n]);
 }
 
 // Compiles for the S1D13706 or the S1D13A05, stores the answer's numbers, and hands back the refused command's part of the list.
@@ -72,54 +73,62 @@ fn compile_for<'a>(
 }
 
 // Compiles, and prints the stream or the refusal.
-fn run(older: bool, form: u32, screen: &[u8], list: &[u8], words: &[u16]) {
+fn run(
+    rt: &(impl Print + Eprint),
+    older: bool,
+    form: u32,
+    screen: &[u8],
+    list: &[u8],
+    words: &[u16],
+) {
     let mut stream = files::stream();
     let mut answer = [0u64; 6];
     let part = compile_for(older, form, screen, list, words, &mut stream, &mut answer);
     if answer[0] != 0 {
-        files::print_refusal(answer[0], answer[1]);
-        print_part(part);
+        files::print_refusal(rt, answer[0], answer[1]);
+        print_part(rt, part);
         return;
     }
     let n = answer[2] as usize;
-    print_stream(&stream[..n]);
+    print_stream(rt, &stream[..n]);
 }
 
 // Reads the list of the file that argument i names; the S1D13706's is empty where it is left out.
-fn load_list(older: bool, i: usize, list: &mut [u8]) -> Loaded
+fn load_list(rt: &(impl Env + Files + Eprint), older: bool, i: usize, list: &mut [u8]) -> Loaded
     ensures { LoadedBytes list.old list.new result }
 {
-    if older && files::is_left_out(i) {
+    if older && files::is_left_out(rt, i) {
         return Loaded { ok: true, n: 0 };
     }
-    files::load(i, list)
+    files::load(rt, i, list)
 }
 
-fn main() {
-    let long = files::is_word(1, b"--long");
+fn main(rt: HostRuntime) {
+    let long = files::is_word(&rt, 1, b"--long");
     let next = files::behind(1, long, 1);
-    let older = files::is_word(next, b"13706");
+    let older = files::is_word(&rt, next, b"13706");
     let first = files::behind(next, older, 1);
-    let count = os::arg_count();
+    let count = files::arg_count(&rt);
     if count < next + 2 || first + 3 < count {
         files::say(
+            &rt,
             b"usage",
             b"compile [--long] SCREEN LIST [WORDS], or compile [--long] 13706 SCREEN [LIST [WORDS]]",
         );
         return;
     }
     let mut screen = [0u8; 33];
-    let s = files::load(first, &mut screen);
+    let s = files::load(&rt, first, &mut screen);
     if !s.ok {
         return;
     }
     let mut list = files::list();
-    let l = load_list(older, first + 1, &mut list);
+    let l = load_list(&rt, older, first + 1, &mut list);
     if !l.ok {
         return;
     }
     let mut words = files::words();
-    let w = files::load_words(first + 2, &mut words);
+    let w = files::load_words(&rt, first + 2, &mut words);
     if !w.ok {
         return;
     }
@@ -127,6 +136,7 @@ fn main() {
     let nl = l.n;
     let nw = w.n;
     run(
+        &rt,
         older,
         files::form_of(long),
         &screen[..ns],
