@@ -17,20 +17,26 @@ pub enum Asked {
 }
 
 // What is asked for of a screen with the six values that playing left, over the memory that drawing left.
-fn show(asked: Asked, screen: &[u8], values: ScreenValues, memory: &[u8]) {
+fn show(
+    rt: &(impl Print + Eprint),
+    asked: Asked,
+    screen: &[u8],
+    values: ScreenValues,
+    memory: &[u8],
+) {
     let answer = screen_code::read_screen(screen);
     match answer {
         ScreenAnswer::Refused(n) => {
-            files::print_refusal(n as u64, 0);
+            files::print_refusal(rt, n as u64, 0);
         }
         ScreenAnswer::Accepted(s) => {
             let d = reader_code::display_of(s);
             match asked {
                 Asked::Picture => {
-                    picture_print::print_picture(d, values, memory);
+                    picture_print::print_picture(rt, d, values, memory);
                 }
                 Asked::Point(p, q) => {
-                    picture_print::print_point(d, values, p, q, memory);
+                    picture_print::print_point(rt, d, values, p, q, memory);
                 }
             }
         }
@@ -47,16 +53,24 @@ fn draw_on(form: u32, screen: &[u8], list: &[u8], words: &[u16], memory: &mut [u
 }
 
 // Draws the list over the memory, and writes what is asked for or the refusal.
-pub fn run(asked: Asked, form: u32, screen: &[u8], list: &[u8], words: &[u16], memory: &mut [u8])
+pub fn run(
+    rt: &(impl Print + Eprint),
+    asked: Asked,
+    form: u32,
+    screen: &[u8],
+    list: &[u8],
+    words: &[u16],
+    memory: &mut [u8],
+)
     ensures { memory.new ≡ memory_drawn memory_size (task form screen.now list.now words.now) 2097152 memory.old }
 {
     let drawn = draw_on(form, screen, list, words, memory);
     match drawn {
         Drawn::Refused(n, i) => {
-            files::print_refusal(n as u64, i);
+            files::print_refusal(rt, n as u64, i);
         }
         Drawn::Accepted(length, values) => {
-            show(asked, screen, values, memory);
+            show(rt, asked, screen, values, memory);
         }
     }
 }
@@ -64,6 +78,7 @@ pub fn run(asked: Asked, form: u32, screen: &[u8], list: &[u8], words: &[u16], m
 // Draws the list over the memory on one screen, and writes what another shows of it, drawn on with an empty list. Or the refusal
 // of the first that refuses.
 pub fn run_through(
+    rt: &(impl Print + Eprint),
     asked: Asked,
     form: u32,
     screen: &[u8],
@@ -77,10 +92,10 @@ pub fn run_through(
     let whole = draw_on(form, screen, list, words, memory);
     match whole {
         Drawn::Refused(n, i) => {
-            files::print_refusal(n as u64, i);
+            files::print_refusal(rt, n as u64, i);
         }
         Drawn::Accepted(length, values) => {
-            run(asked, 32, view, &[], &[], memory);
+            run(rt, asked, 32, view, &[], &[], memory);
         }
     }
 }
