@@ -17,42 +17,47 @@ pub fn sample_room() -> [u8; 524289]
 }
 
 // Says why the sample of a line is not taken.
-fn say_line(line: u64, why: &[u8]) {
+fn say_line(rt: &impl Eprint, line: u64, why: &[u8]) {
     let mut text = [0u8; 32];
     let at = text_code::put(&mut text, 0, b"line ");
     let n = text_code::put_decimal(&mut text, at, line);
-    files::say(&text[..n], why);
+    files::say(rt, &text[..n], why);
 }
 
 // The ring after a sample; where it is refused, its line is said, and why.
-fn take(ring: Ring, line: u64, sequence: u16, height: u32) -> Ring
+fn take(rt: &impl Eprint, ring: Ring, line: u64, sequence: u16, height: u32) -> Ring
     ensures { result ≡ (taking ring sequence height).ring }
 {
     let taken = ring_code::take_sample(ring, sequence, height);
     if taken.number != 0 {
         if 100 < height {
-            say_line(line, b"refused 27: height above 100");
+            say_line(rt, line, b"refused 27: height above 100");
         } else {
-            say_line(line, b"refused 27: not 1 to 512 steps ahead of the newest");
+            say_line(
+                rt,
+                line,
+                b"refused 27: not 1 to 512 steps ahead of the newest",
+            );
         }
     }
     taken.ring
 }
 
 // The ring after a line of text.
-fn take_line(ring: Ring, number: u64, line: &[u8]) -> Ring
+fn take_line(rt: &impl Eprint, ring: Ring, number: u64, line: &[u8]) -> Ring
     ensures { result ≡ ring_after ring (with_line (line_means line.now) []) }
 {
     let means = sample_code::line_means(line);
     match means {
         SampleLine::Sample(sequence, height) => {
-            return take(ring, number, sequence, height);
+            return take(rt, ring, number, sequence, height);
         }
         SampleLine::Nothing => {
             return ring;
         }
         SampleLine::Bad => {
             say_line(
+                rt,
                 number,
                 b"no sample: not a number of at most 65535 and a height",
             );
@@ -62,7 +67,7 @@ fn take_line(ring: Ring, number: u64, line: &[u8]) -> Ring
 }
 
 // The ring after the samples of a text, a line each, from an empty one.
-pub fn take_lines(text: &[u8]) -> Ring
+pub fn take_lines(rt: &impl Eprint, text: &[u8]) -> Ring
     ensures { result ≡ ring_after empty_ring (samples_of (lines_of text.now)) }
 {
     let mut ring = ring_code::new_ring();
@@ -71,7 +76,7 @@ pub fn take_lines(text: &[u8]) -> Ring
     while at < text.len() {
         let n = sample_code::run_end(Stop::LineEnd, &text[at..]);
         number += 1;
-        ring = take_line(ring, number, &text[at..at + n]);
+        ring = take_line(rt, ring, number, &text[at..at + n]);
         at += n + 1;
     }
     ring
