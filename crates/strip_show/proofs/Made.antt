@@ -1,8 +1,8 @@
 -- A strip that is made stands at the front of its buffers; and what is drawn of it.
 use Prim.Native.Nat.{ℕ, ◌<◌, ◌≤◌}
 use mathlib.Core.Path.{◌≡◌, refl, sym, ap, subst, ◌∙◌}
-use mathlib.Core.Bool.{Bool, true, false, cond, true≢false}
-use mathlib.Core.List.{List, [], ◌∷◌, ◌++◌}
+use mathlib.Core.Bool.{Bool, true, false, true≢false}
+use mathlib.Core.List.{List}
 use native.Mathlib.Omega.{arith}
 use lib.ListN.{length, take, drop, length-append}
 use lib.Seq.{take-append_seam}
@@ -20,7 +20,7 @@ use Rattle.compiler.proofs.Outcome.{refused_screen}
 use Rattle.ring.specs.declared.Ring.{Ring}
 use Rattle.font.specs.Factory.{factory_font}
 use Rattle.wear.specs.declared.Ask.{Ask}
-use Rattle.wear.specs.Strip.{Strip, strip_for, strip_list, strip_words, strip_rows, Stripping, stripping, buffer_with, list_after, words_after, stripping_of, answer_of}
+use Rattle.wear.specs.Strip.{Strip, strip_for, strip_list, strip_words, strip_rows, Stripping, stripping, list_after, words_after, stripping_of, answer_of}
 use Rattle.wear.specs.declared.StripAnswer.{StripAnswer}
 use Rattle.wear.specs.declared.StripAnswer.TheVariants.{Made, Refused}
 use Rattle.strip_show.specs.Drawn.{ask_for, strip_made, strip_drawn}

@@ -28,7 +28,14 @@ fn word_room() -> [u16; 320]
 }
 
 // Draws the strip for an ask over the memory of a screen, and writes what the panel shows, or the refusal.
-fn show_asked(ring: Ring, ask: Ask, site: &[u8], screen: &[u8], memory: &mut [u8])
+fn show_asked(
+    rt: &(impl Print + Eprint),
+    ring: Ring,
+    ask: Ask,
+    site: &[u8],
+    screen: &[u8],
+    memory: &mut [u8],
+)
     ensures { memory.new ≡ strip_made (strip_for ring ask site.now factory_font) screen.now memory.old }
 {
     let factory = font::factory_font();
@@ -37,12 +44,13 @@ fn show_asked(ring: Ring, ask: Ask, site: &[u8], screen: &[u8], memory: &mut [u8
     let made = wear_code::wear_strip(ring, ask, site, &factory, &mut list, &mut words);
     match made {
         StripAnswer::Refused(n) => {
-            files::print_refusal(n as u64, 0);
+            files::print_refusal(rt, n as u64, 0);
         }
         StripAnswer::Made(bytes, count) => {
             let nl = bytes as usize;
             let nw = count as usize;
             panel_show::run(
+                rt,
                 Asked::Picture,
                 32,
                 screen,
@@ -70,17 +78,24 @@ fn ask_for(depth: u32, a: Ask) -> Ask
 }
 
 // The strip of a ring's last hours in the depth of a screen.
-pub fn show_strip(ring: Ring, a: Ask, site: &[u8], screen: &[u8], memory: &mut [u8])
+pub fn show_strip(
+    rt: &(impl Print + Eprint),
+    ring: Ring,
+    a: Ask,
+    site: &[u8],
+    screen: &[u8],
+    memory: &mut [u8],
+)
     ensures { memory.new ≡ strip_drawn ring a site.now screen.now memory.old }
 {
     let answer = screen_code::read_screen(screen);
     match answer {
         ScreenAnswer::Refused(n) => {
-            files::print_refusal(n as u64, 0);
+            files::print_refusal(rt, n as u64, 0);
         }
         ScreenAnswer::Accepted(s) => {
             let ask = ask_for(s.depth as u32, a);
-            show_asked(ring, ask, site, screen, memory);
+            show_asked(rt, ring, ask, site, screen, memory);
         }
     }
 }
