@@ -18,34 +18,51 @@
 ghost use Rattle.std.specs.Prelude.{◌≤◌};
 
 use panel_show::Asked;
+use std::rt::{Env, Files};
 
 // Reads the host words, the memory and the view, the third, fourth and fifth file, and runs.
-fn run_with(asked: Asked, form: u32, first: usize, screen: &[u8], list: &[u8])
+fn run_with(
+    rt: &(impl Env + Files + Print + Eprint),
+    asked: Asked,
+    form: u32,
+    first: usize,
+    screen: &[u8],
+    list: &[u8],
+)
     requires { first ≤ 5 }
 {
     let mut words = files::words();
-    let w = files::load_words(first + 2, &mut words);
+    let w = files::load_words(rt, first + 2, &mut words);
     if !w.ok {
         return;
     }
     let mut memory = files::memory();
-    let m = files::load_memory(first + 3, &mut memory);
+    let m = files::load_memory(rt, first + 3, &mut memory);
     if !m.ok {
         return;
     }
     let nw = w.n;
     let nm = m.n;
-    if files::is_left_out(first + 4) {
-        panel_show::run(asked, form, screen, list, &words[..nw], &mut memory[..nm]);
+    if files::is_left_out(rt, first + 4) {
+        panel_show::run(
+            rt,
+            asked,
+            form,
+            screen,
+            list,
+            &words[..nw],
+            &mut memory[..nm],
+        );
         return;
     }
     let mut view = [0u8; 33];
-    let v = files::load(first + 4, &mut view);
+    let v = files::load(rt, first + 4, &mut view);
     if !v.ok {
         return;
     }
     let nv = v.n;
     panel_show::run_through(
+        rt,
         asked,
         form,
         screen,
@@ -57,32 +74,33 @@ fn run_with(asked: Asked, form: u32, first: usize, screen: &[u8], list: &[u8])
 }
 
 // Reads the screen record and the list, which the arguments from `first` on name, and then the other files.
-fn run_from(asked: Asked, form: u32, first: usize)
+fn run_from(rt: &(impl Env + Files + Print + Eprint), asked: Asked, form: u32, first: usize)
     requires { first ≤ 5 }
 {
     let mut screen = [0u8; 33];
-    let s = files::load(first, &mut screen);
+    let s = files::load(rt, first, &mut screen);
     if !s.ok {
         return;
     }
     let mut list = files::list();
-    let l = files::load(first + 1, &mut list);
+    let l = files::load(rt, first + 1, &mut list);
     if !l.ok {
         return;
     }
     let ns = s.n;
     let nl = l.n;
-    run_with(asked, form, first, &screen[..ns], &list[..nl]);
+    run_with(rt, asked, form, first, &screen[..ns], &list[..nl]);
 }
 
-fn main() {
-    let long = files::is_word(1, b"--long");
+fn main(rt: HostRuntime) {
+    let long = files::is_word(&rt, 1, b"--long");
     let next = files::behind(1, long, 1);
-    let at = files::is_word(next, b"--at");
+    let at = files::is_word(&rt, next, b"--at");
     let first = files::behind(next, at, 3);
-    let count = os::arg_count();
+    let count = files::arg_count(&rt);
     if count < first + 2 || first + 5 < count {
         files::say(
+            &rt,
             b"usage",
             b"panel [--long] [--at P Q] SCREEN LIST [WORDS [MEMORY [VIEW]]]",
         );
@@ -90,13 +108,13 @@ fn main() {
     }
     let mut asked = Asked::Picture;
     if at {
-        let p = files::number(next + 1);
-        let q = files::number(next + 2);
+        let p = files::number(&rt, next + 1);
+        let q = files::number(&rt, next + 2);
         if !(p.ok & q.ok) {
-            files::say(b"--at", b"P and Q are one to nine digits each");
+            files::say(&rt, b"--at", b"P and Q are one to nine digits each");
             return;
         }
         asked = Asked::Point(p.n, q.n);
     }
-    run_from(asked, files::form_of(long), first);
+    run_from(&rt, asked, files::form_of(long), first);
 }
