@@ -13,6 +13,7 @@
 ghost use Rattle.std.specs.Prelude.{◌≡◌};
 ghost use Rattle.strip.specs.Short.{short_of};
 
+use std::rt::{Env, Files};
 use text::Number;
 use wear::Ask;
 
@@ -37,77 +38,82 @@ fn short_of(a: Number) -> Short
 }
 
 // Takes the samples, and shows the strip with a site font on a memory of zeros.
-fn run_with(a: Ask, site: &[u8], screen: &[u8], samples: &[u8]) {
+fn run_with(rt: &(impl Print + Eprint), a: Ask, site: &[u8], screen: &[u8], samples: &[u8]) {
     let mut memory = files::memory();
-    let ring = strip_take::take_lines(samples);
-    strip_show::show_strip(ring, a, site, screen, &mut memory[..262144]);
+    let ring = strip_take::take_lines(rt, samples);
+    strip_show::show_strip(rt, ring, a, site, screen, &mut memory[..262144]);
 }
 
 // Reads the site font, the ninth argument.
-fn run_on(a: Ask, screen: &[u8], samples: &[u8]) {
+fn run_on(rt: &(impl Env + Files + Print + Eprint), a: Ask, screen: &[u8], samples: &[u8]) {
     let mut site = [0u8; 80];
-    if files::is_left_out(9) {
-        run_with(a, &[], screen, samples);
+    if files::is_left_out(rt, 9) {
+        run_with(rt, a, &[], screen, samples);
         return;
     }
-    let f = files::load(9, &mut site);
+    let f = files::load(rt, 9, &mut site);
     if !f.ok {
         return;
     }
     let n = f.n;
-    run_with(a, &site[..n], screen, samples);
+    run_with(rt, a, &site[..n], screen, samples);
 }
 
 // Reads the screen record and the samples, the first and the second argument.
-fn run_for(a: Ask) {
+fn run_for(rt: &(impl Env + Files + Print + Eprint), a: Ask) {
     let mut screen = [0u8; 33];
-    let s = files::load(1, &mut screen);
+    let s = files::load(rt, 1, &mut screen);
     if !s.ok {
         return;
     }
     let mut samples = strip_take::sample_room();
-    let t = files::load(2, &mut samples);
+    let t = files::load(rt, 2, &mut samples);
     if !t.ok {
         return;
     }
     let ns = s.n;
     let nt = t.n;
     if 524288 < nt {
-        files::say(b"samples", b"more than 524288 bytes");
+        files::say(rt, b"samples", b"more than 524288 bytes");
         return;
     }
-    run_on(a, &screen[..ns], &samples[..nt]);
+    run_on(rt, a, &screen[..ns], &samples[..nt]);
 }
 
-fn main() {
-    let count = os::arg_count();
+fn main(rt: HostRuntime) {
+    let count = files::arg_count(&rt);
     if count < 9 || 10 < count {
         files::say(
+            &rt,
             b"usage",
             b"strip SCREEN SAMPLES HOURS COLUMN X Y BAR BACKGROUND [SITE]",
         );
         return;
     }
-    let hours = files::number(3);
-    let column = files::number(4);
-    let x = short_of(files::number(5));
-    let y = short_of(files::number(6));
-    let bar = short_of(files::number(7));
-    let background = short_of(files::number(8));
+    let hours = files::number(&rt, 3);
+    let column = files::number(&rt, 4);
+    let x = short_of(files::number(&rt, 5));
+    let y = short_of(files::number(&rt, 6));
+    let bar = short_of(files::number(&rt, 7));
+    let background = short_of(files::number(&rt, 8));
     if !(hours.ok & column.ok & x.ok & y.ok & bar.ok & background.ok) {
         files::say(
+            &rt,
             b"strip",
             b"HOURS, COLUMN, X, Y, BAR and BACKGROUND are numbers, the last four at most 65535",
         );
         return;
     }
-    run_for(Ask {
-        hours: hours.n,
-        depth: 0,
-        x: x.n,
-        y: y.n,
-        column: column.n,
-        bar: bar.n,
-        background: background.n,
-    });
+    run_for(
+        &rt,
+        Ask {
+            hours: hours.n,
+            depth: 0,
+            x: x.n,
+            y: y.n,
+            column: column.n,
+            bar: bar.n,
+            background: background.n,
+        },
+    );
 }
