@@ -1,7 +1,7 @@
 // What the blit registers say, and the data words that are due.
 #![tactic(auto)]
 
-ghost use Rattle.std.specs.Prelude.{◌≡◌, true, ◌≤◌, ◌<◌};
+ghost use Rattle.std.specs.Prelude.{◌≡◌, ◌-◌, ◌/◌, ◌≤◌, ◌<◌, min};
 ghost use Rattle.chip.specs.Start.{operation, raster_code, bytes_of, source_of, destination_of, line_of, width_of, height_of, foreground_of, key_of, pattern_base, pattern_line, pattern_column};
 ghost use Rattle.chip.specs.Admit.{due_after};
 ghost use Rattle.chip.specs.Words.{line_words, due_in_line, due_in_all, due_after_words, chip_after_words};
@@ -75,35 +75,31 @@ pub fn key_of(b: Registers) -> u16
     (b.background % 65536) as u16
 }
 
+// Pixels before the source address.
+fn pixels_before(b: Registers) -> u32
+    ensures { result ≡ source_of b / bytes_of b }
+{
+    let source = source_of(b);
+    if bytes_of(b) == 1 { source } else { source / 2 }
+}
+
 // Where a pattern of 64 pixels begins, and the line and column of its first pixel.
 pub fn pattern_base(b: Registers) -> u32
     ensures { result ≡ pattern_base b }
 {
-    let source = source_of(b);
-    if bytes_of(b) == 1 {
-        return source / 64 * 64;
-    }
-    source / 128 * 128
+    pixels_before(b) / 64 * (64 * bytes_of(b) as u32)
 }
 
 pub fn pattern_line(b: Registers) -> u32
     ensures { result ≡ pattern_line b }
 {
-    let source = source_of(b);
-    if bytes_of(b) == 1 {
-        return source / 8 % 8;
-    }
-    source / 16 % 8
+    pixels_before(b) / 8 % 8
 }
 
 pub fn pattern_column(b: Registers) -> u32
     ensures { result ≡ pattern_column b }
 {
-    let source = source_of(b);
-    if bytes_of(b) == 1 {
-        return source % 8;
-    }
-    source / 2 % 8
+    pixels_before(b) % 8
 }
 
 // Data words of a line.
@@ -112,6 +108,13 @@ fn words_of(b: Registers) -> u64
 {
     (width_of(b) * bytes_of(b) + 1) / 2
 }
+
+// No word is due.
+const NO_WORD: Due = Due {
+    any: false,
+    line: 0,
+    word: 0,
+};
 
 // The next word that is due once one has come.
 fn due_after(b: Registers, d: Due) -> Due
@@ -133,26 +136,28 @@ fn due_after(b: Registers, d: Due) -> Due
             word: 0,
         };
     }
-    Due {
-        any: false,
-        line: 0,
-        word: 0,
-    }
+    NO_WORD
 }
 
-// Words that are due of the line. A word past its line is that line's last.
+// Words of the line before the due one. A word past its line is that line's last.
+fn words_before(b: Registers, d: Due) -> u64
+    ensures { result ≡ min d.word (line_words b - 1) }
+{
+    (d.word as u64).min(words_of(b) - 1)
+}
+
+// Words that are due of the line.
 pub fn line_due(b: Registers, d: Due) -> u64
     ensures { (result ≡ due_in_line b d) × (0 < result) × (result ≤ 1024) }
 {
-    let words = words_of(b);
-    words - record_code::least(d.word as usize, (words - 1) as usize) as u64
+    words_of(b) - words_before(b, d)
 }
 
 // Words that are due, of this line and those after it.
 pub fn words_due(b: Registers, d: Due) -> u64
     ensures { (result ≡ due_in_all b d) × (result ≤ 1048576) }
 {
-    let lines = record_code::minus(height_of(b), d.line as u64 + 1);
+    let lines = height_of(b).saturating_sub(d.line as u64 + 1);
     lines * words_of(b) + line_due(b, d)
 }
 
@@ -162,14 +167,10 @@ fn due_after_words(b: Registers, d: Due, n: u64) -> Due
     ensures { result ≡ due_after_words b n d }
 {
     if n == words_due(b, d) {
-        return Due {
-            any: false,
-            line: 0,
-            word: 0,
-        };
+        return NO_WORD;
     }
     let words = words_of(b);
-    let come = record_code::least(d.word as usize, (words - 1) as usize) as u64 + n;
+    let come = words_before(b, d) + n;
     Due {
         any: true,
         line: d.line + (come / words) as u16,
@@ -182,10 +183,10 @@ pub fn words_after(c: Chip, n: u64) -> Chip
     requires { (0 < n) × (n ≤ due_in_all c.blit c.due) }
     ensures { result ≡ chip_after_words c n }
 {
-    let screen = c.screen;
-    let blit = c.blit;
-    let due = due_after_words(blit, c.due, n);
-    Chip { screen, blit, due }
+    Chip {
+        due: due_after_words(c.blit, c.due, n),
+        ..c
+    }
 }
 
 // What is due after so many words of the due word's line: as after the last of them.
@@ -206,8 +207,8 @@ pub fn line_after(c: Chip, n: u64) -> Chip
     requires { (0 < n) × (n ≤ due_in_line c.blit c.due) }
     ensures { result ≡ chip_after_words c n }
 {
-    let screen = c.screen;
-    let blit = c.blit;
-    let due = due_in_line(blit, c.due, n);
-    Chip { screen, blit, due }
+    Chip {
+        due: due_in_line(c.blit, c.due, n),
+        ..c
+    }
 }

@@ -7,8 +7,8 @@ use Rattle.chip_due.proofs.words_due.Goals as goal
 pub returns : goal.returns
 unfolding due_in_all
 returns c = let a = c.args in
-    let l = c.minus-lines.ensures in
-    let bound : c.minus-lines.result * c.words_of.result ≤ 1023 * 1024 = mul-le-mul {n₂ = 1023} {m₂ = 1024} (omega arith) (omega arith) in (
+    let l = c.saturating_sub-lines.ensures in
+    let bound : c.saturating_sub-lines.result * c.words_of.result ≤ 1023 * 1024 = mul-le-mul {n₂ = 1023} {m₂ = 1024} (omega arith) (omega arith) in (
       (λ t. (l ∙ ap (λ (x : ℕ). x - (a.d.line + 1)) c.height_of.ensures) t * c.words_of.ensures.0 t + c.line_due.ensures.0 t),
       omega arith,
     )
