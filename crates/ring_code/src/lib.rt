@@ -2,9 +2,9 @@
 #![tactic(auto)]
 
 ghost use Rattle.std.specs.Prelude.{◌≡◌, ◌+◌, ◌-◌, ◌≤◌, true, length, take, replicate};
-ghost use Rattle.std.proofs.lemmas.List.Edits.{sets};
 ghost use Rattle.ring.specs.Samples.{steps_to};
 ghost use Rattle.ring.specs.Kept.{empty_ring, slot_of, takes as takesSample, hours_on, blanked, taking, slot_hour, hour_in, telling_of, hour_of, heights_of, ring_in, cells_of};
+ghost use Rattle.ring_code.specs.View.{ring_of};
 
 use ring::{Hour, Ring, Taken};
 
@@ -53,19 +53,6 @@ fn hours_on(any: u16, newest: u16, sequence: u16) -> u32
     steps_to(newest, sequence) as u32
 }
 
-// Makes the numbers from one place up to another 0.
-fn zero(cells: &mut [u16], from: usize, to: usize)
-    requires from_le_to { from ≤ to }
-    requires to_in_bounds { to ≤ length cells.old }
-    ensures { cells.new ≡ sets cells.old from (replicate (to - from) 0) }
-{
-    let mut i = from;
-    while i < to {
-        cells[i] = 0;
-        i += 1;
-    }
-}
-
 // Makes the hours before that of number n blank, so many of them, in numbers of which the heights are those from `from` on.
 fn blank(cells: &mut [u16], from: usize, n: u16, hours: u32)
     requires from_in_bounds { from + 512 ≤ length cells.old }
@@ -75,11 +62,11 @@ fn blank(cells: &mut [u16], from: usize, n: u16, hours: u32)
     let at = slot_of(n, 0);
     let back = hours as usize;
     if back <= at {
-        zero(cells, from + at - back, from + at);
+        cells[from + at - back..from + at].fill(0);
         return;
     }
-    zero(cells, from, from + at);
-    zero(cells, from + 512 - (back - at), from + 512);
+    cells[from..from + at].fill(0);
+    cells[from + 512 - (back - at)..from + 512].fill(0);
 }
 
 // Takes a sample into the ring, or says why not.
@@ -107,7 +94,8 @@ pub fn take_sample(ring: Ring, sequence: u16, height: u32) -> Taken
     }
 }
 
-// The same in place, for a ring as 1,026 numbers.
+// The same in place, for a ring as 1,026 numbers. A view that lends both forms to be written would be no plainer: each of its four parts
+// is a loan of its own, with a clause of its own.
 fn take_cells(cells: &mut [u16], sequence: u16, height: u32) -> u32
     requires { length cells.old ≡ 1026 }
     ensures value { result ≡ (taking (ring_in cells.old) sequence height).number }
@@ -148,16 +136,62 @@ fn slot_hour(any: u16, newest: u16, number: u16, held: u16, age: u32) -> Hour
     Hour::Blank
 }
 
+// A ring lent to be read: a Ring's parts, or those of a C caller's numbers.
+#[derive(Clone, Copy)]
+struct View<'a> {
+    any: u16,
+    newest: u16,
+    numbers: &'a [u16],
+    heights: &'a [u16],
+}
+
+// A ring, lent.
+fn view_of(ring: &Ring) -> View<'_>
+    ensures ring { ring_of result ≡ ring.now }
+    ensures numbers_len { length result.numbers.now ≡ 512 }
+    ensures heights_len { length result.heights.now ≡ 512 }
+{
+    View {
+        any: ring.any,
+        newest: ring.newest,
+        numbers: &ring.numbers,
+        heights: &ring.heights,
+    }
+}
+
+// A ring as a C caller holds it, lent.
+fn view_in(cells: &[u16; 1026]) -> View<'_>
+    ensures ring { ring_of result ≡ ring_in cells.now }
+    ensures numbers_len { length result.numbers.now ≡ 512 }
+    ensures heights_len { length result.heights.now ≡ 512 }
+{
+    View {
+        any: cells[0],
+        newest: cells[1],
+        numbers: &cells[2..514],
+        heights: &cells[514..1026],
+    }
+}
+// What a ring tells of the hour of an age.
+fn hour_told(v: View, age: u32) -> Hour
+    requires numbers_len { length v.numbers.now ≡ 512 }
+    requires heights_len { length v.heights.now ≡ 512 }
+    ensures result_value { telling_of result ≡ hour_in (ring_of v.entry) age }
+    ensures value { result ≡ hour_of (hour_in (ring_of v.entry) age) }
+{
+    if 511 < age {
+        return Hour::Refused(27);
+    }
+    let k = slot_of(v.newest, age);
+    slot_hour(v.any, v.newest, v.numbers[k], v.heights[k], age)
+}
+
 // What the ring tells of the hour of an age.
 pub fn hour_at(ring: Ring, age: u32) -> Hour
     ensures result_value { telling_of result ≡ hour_in ring age }
     ensures value { result ≡ hour_of (hour_in ring age) }
 {
-    if 511 < age {
-        return Hour::Refused(27);
-    }
-    let k = slot_of(ring.newest, age);
-    slot_hour(ring.any, ring.newest, ring.numbers[k], ring.heights[k], age)
+    hour_told(view_of(&ring), age)
 }
 
 // The same of a ring as a C caller holds it.
@@ -165,12 +199,7 @@ pub fn hour_in(cells: &[u16; 1026], age: u32) -> Hour
     ensures result_value { telling_of result ≡ hour_in (ring_in cells.now) age }
     ensures value { result ≡ hour_of (hour_in (ring_in cells.now) age) }
 {
-    if age > 511 {
-        return Hour::Refused(27);
-    }
-    let newest = cells[1];
-    let k = slot_of(newest, age);
-    slot_hour(cells[0], newest, cells[2 + k], cells[514 + k], age)
+    hour_told(view_in(cells), age)
 }
 
 // The height that is told of an hour; 0 where there is none.
@@ -184,22 +213,28 @@ fn height_of(hour: Hour) -> u32
     }
 }
 
+// The heights that a ring tells of the last hours, oldest first.
+fn heights_told(v: View, hours: u32) -> [u32; 24]
+    requires hours_bound { hours ≤ 24 }
+    requires numbers_len { length v.numbers.now ≡ 512 }
+    requires heights_len { length v.heights.now ≡ 512 }
+    ensures result_value { take hours result ≡ heights_of (ring_of v.entry) hours }
+    ensures result_len { length result ≡ 24 }
+{
+    let mut heights = [0u32; 24];
+    for i in 0..hours {
+        heights[i as usize] = height_of(hour_told(v, hours - 1 - i));
+    }
+    heights
+}
+
 // The heights of the last hours, oldest first.
 pub fn heights_of(ring: Ring, hours: u32) -> [u32; 24]
     requires { hours ≤ 24 }
     ensures result_value { take hours result ≡ heights_of ring hours }
     ensures result_len { length result ≡ 24 }
 {
-    let mut heights = [0u32; 24];
-    let mut i = 0;
-    while i < hours {
-        let age = hours - 1 - i;
-        let k = slot_of(ring.newest, age);
-        let hour = slot_hour(ring.any, ring.newest, ring.numbers[k], ring.heights[k], age);
-        heights[i as usize] = height_of(hour);
-        i += 1;
-    }
-    heights
+    heights_told(view_of(&ring), hours)
 }
 
 // The same of a ring as a C caller holds it.
@@ -208,12 +243,5 @@ pub fn heights_in(cells: &[u16; 1026], hours: u32) -> [u32; 24]
     ensures result_value { take hours result ≡ heights_of (ring_in cells.now) hours }
     ensures result_len { length result ≡ 24 }
 {
-    let mut heights = [0u32; 24];
-    let mut i = 0;
-    while i < hours {
-        let hour = hour_in(cells, hours - 1 - i);
-        heights[i as usize] = height_of(hour);
-        i += 1;
-    }
-    heights
+    heights_told(view_in(cells), hours)
 }
