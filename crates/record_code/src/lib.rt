@@ -1,7 +1,7 @@
 // Numbers and records in byte slices.
 #![tactic(auto)]
 
-ghost use Rattle.std.specs.Prelude.{◌≡◌, ◌+◌, ◌-◌, ◌*◌, ◌/◌, ◌%◌, ◌≤◌, ◌<◌, min, length};
+ghost use Rattle.std.specs.Prelude.{◌≡◌, ◌+◌, ◌-◌, ◌*◌, ◌/◌, ◌%◌, ◌≤◌, ◌<◌, cond, min, length};
 ghost use Rattle.std.proofs.lemmas.List.Edits.{sets};
 ghost use Rattle.record.specs.Bytes.{u16_at, u24_at, u32_at, four_bytes, all_zero};
 ghost use Rattle.record.specs.Record.{record_bytes, record_at};
@@ -13,7 +13,7 @@ use record::Record;
 pub fn wide(x: u8) -> u32
     ensures { (result ≡ x) × (result < 256) }
 {
-    x as u32
+    u32::from(x)
 }
 
 // The number in two bytes, the low one first.
@@ -21,9 +21,7 @@ pub fn u16_at(b: &[u8], at: usize) -> u16
     requires { at + 2 ≤ length b.now }
     ensures { result ≡ u16_at b.now at }
 {
-    let low = wide(b[at]);
-    let high = wide(b[at + 1]);
-    (low + 256 * high) as u16
+    u16::from_le_bytes([b[at], b[at + 1]])
 }
 
 // The number in three bytes, the lowest first.
@@ -31,9 +29,7 @@ pub fn u24_at(b: &[u8], at: usize) -> u32
     requires { at + 3 ≤ length b.now }
     ensures { result ≡ u24_at b.now at }
 {
-    let low = u16_at(b, at) as u32;
-    let high = wide(b[at + 2]);
-    low + 65536 * high
+    u32::from_le_bytes([b[at], b[at + 1], b[at + 2], 0])
 }
 
 // The number in four bytes, the lowest first.
@@ -41,9 +37,7 @@ pub fn u32_at(b: &[u8], at: usize) -> u32
     requires { at + 4 ≤ length b.now }
     ensures { result ≡ u32_at b.now at }
 {
-    let low = u16_at(b, at) as u32;
-    let high = u16_at(b, at + 2) as u32;
-    low + 65536 * high
+    u32::from_le_bytes([b[at], b[at + 1], b[at + 2], b[at + 3]])
 }
 
 // Whether each byte is zero.
@@ -51,10 +45,8 @@ pub fn all_zero(b: &[u8]) -> bool
     ensures { result ≡ all_zero b.now }
 {
     let mut zero = true;
-    let mut i = 0;
-    while i < b.len() {
-        zero = zero & (b[i] == 0);
-        i += 1;
+    for x in b {
+        zero &= *x == 0;
     }
     zero
 }
@@ -64,10 +56,7 @@ pub fn put_number(buffer: &mut [u8], at: usize, value: u64)
     requires { at + 4 ≤ length buffer.old }
     ensures { buffer.new ≡ sets buffer.old at (four_bytes value) }
 {
-    buffer[at] = (value % 256) as u8;
-    buffer[at + 1] = (value / 256 % 256) as u8;
-    buffer[at + 2] = (value / 65536 % 256) as u8;
-    buffer[at + 3] = (value / 16777216 % 256) as u8;
+    buffer[at..at + 4].copy_from_slice(&value.to_le_bytes()[..4]);
 }
 
 // Stores a record at `at`.
@@ -93,28 +82,35 @@ pub fn record_at(stream: &[u8], i: usize) -> Record
 pub fn minus(a: u64, b: u64) -> u64
     ensures { result ≡ a - b }
 {
-    if b <= a { a - b } else { 0 }
+    a.saturating_sub(b)
 }
 
 // The quotient, cut off; 0 where there is no divisor.
 pub fn quotient(a: u64, b: u64) -> u64
     ensures { result ≡ a / b }
 {
-    if b == 0 { 0 } else { a / b }
+    a.checked_div(b).unwrap_or(0)
 }
 
 // The remainder; the number itself where there is no divisor.
 pub fn remainder(a: u64, b: u64) -> u64
     ensures { result ≡ a % b }
 {
-    if b == 0 { a } else { a % b }
+    a.checked_rem(b).unwrap_or(a)
+}
+
+// The first of two values, or else the second.
+pub fn choose<T: Copy>(first: bool, a: T, b: T) -> T
+    ensures { result ≡ cond first a b }
+{
+    if first { a } else { b }
 }
 
 // The lesser of two numbers.
 pub fn least(a: usize, b: usize) -> usize
     ensures { result ≡ min a b }
 {
-    if a <= b { a } else { b }
+    a.min(b)
 }
 
 // Whether one of the checks found something.
@@ -122,10 +118,8 @@ fn any_of(fails: &[bool]) -> bool
     ensures { result ≡ any_of fails.now }
 {
     let mut any = false;
-    let mut j = 0;
-    while j < fails.len() {
-        any = any | fails[j];
-        j += 1;
+    for x in fails {
+        any |= *x;
     }
     any
 }
@@ -138,12 +132,10 @@ pub fn first_of(numbers: &[u32], fails: &[bool]) -> u32
     if !any_of(fails) {
         return 0;
     }
-    let mut k = 0;
-    while k < fails.len() {
-        if fails[k] {
-            return numbers[k];
+    for (number, found) in numbers.iter().zip(fails) {
+        if *found {
+            return *number;
         }
-        k += 1;
     }
     0
 }

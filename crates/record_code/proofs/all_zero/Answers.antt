@@ -1,14 +1,13 @@
 use mathlib.Core.Path.{refl, sym, ◌∙◌}
 use native.Mathlib.Omega.{arith}
-use borrow.Author.Rules.{rules}
 use Rattle.record.proofs.Zero.{zero_step, zero_end}
 use Rattle.record_code.proofs.all_zero.Goals as goal
 
-pub loop-i-init : goal.loop-i-init
-loop-i-init c = (search rules, refl)
+pub loop-x-init : goal.loop-x-init
+loop-x-init c = refl
 
-pub loop-i-preserved : goal.loop-i-preserved
-loop-i-preserved c = let l = c.loop-i in (search rules, l.invariant.1 ∙ zero_step _ l.i l.zero (omega arith))
+pub loop-x-preserved : goal.loop-x-preserved
+loop-x-preserved c = let l = c.loop-x in l.invariant ∙ zero_step _ l.x-index l.zero (omega arith)
 
 pub returns : goal.returns
-returns c = let l = c.loop-i in sym (l.invariant.1 ∙ zero_end _ l.i l.zero (omega arith))
+returns c = let l = c.loop-x in sym (l.invariant ∙ zero_end _ l.x-index l.zero (omega arith))

@@ -1,13 +1,9 @@
--- The bytes before i and those from i on are all of them.
-use Prim.Native.Nat.{◌≤◌, ◌-◌}
+-- The bytes before x and those from x on are all of them.
 use mathlib.Core.Path.{◌≡◌}
 use mathlib.Core.Bool.{◌&&◌}
-use lib.ListN.{length, drop}
+use lib.ListN.{drop}
 use Rattle.record.specs.Bytes.{all_zero}
 use Rattle.record_code.proofs.all_zero.Given as goal
 
-abbrev pub invariant-loop-i : goal.invariant-loop-i
-invariant-loop-i l = (l.i ≤ length l.b) × (all_zero l.b ≡ l.zero && all_zero (drop l.i l.b))
-
-abbrev pub decreases-loop-i : goal.decreases-loop-i
-decreases-loop-i l = length l.b - l.i
+abbrev pub invariant-loop-x : goal.invariant-loop-x
+invariant-loop-x l = all_zero l.b ≡ l.zero && all_zero (drop l.x-index l.b)

@@ -1,12 +1,7 @@
--- The checks before k have passed: the rows from k on decide.
-use Prim.Native.Nat.{◌≤◌, ◌-◌}
+-- The checks so far have passed: the rows that are left decide.
 use mathlib.Core.Path.{◌≡◌}
-use lib.ListN.{length, drop}
 use Rattle.record.specs.Checks.{rows_with, first_of}
 use Rattle.record_code.proofs.first_of.Given as goal
 
-abbrev pub invariant-loop-k : goal.invariant-loop-k
-invariant-loop-k l = (l.k ≤ length l.fails) × (first_of (rows_with l.numbers l.fails) ≡ first_of (rows_with (drop l.k l.numbers) (drop l.k l.fails)))
-
-abbrev pub decreases-loop-k : goal.decreases-loop-k
-decreases-loop-k l = length l.fails - l.k
+abbrev pub invariant-loop-number : goal.invariant-loop-number
+invariant-loop-number l = first_of (rows_with l.numbers l.fails) ≡ first_of (rows_with l.number-iterator.a.rest.now l.number-iterator.b.rest.now)

@@ -1,17 +1,14 @@
 use native.Mathlib.Omega.{arith}
-use lib.ListN.{length-set}
-use Prim.Native.Nat.{◌/◌, ◌%◌}
-use Rattle.record.proofs.Stores.{sets_four}
+use mathlib.Core.Path.{ap, ◌∙◌}
+use Prim.Native.Nat.{◌+◌, ◌-◌}
+use lib.ListN.{take}
+use Rattle.record.specs.Bytes.{four_bytes}
+use Rattle.record.proofs.Stores.{part_put}
 use Rattle.record_code.proofs.put_number.Goals as goal
-
-pub bounds-buffer-at-2 : goal.bounds-buffer-at-2
-bounds-buffer-at-2 c = simp length-set (omega arith)
-
-pub bounds-buffer-at-3 : goal.bounds-buffer-at-3
-bounds-buffer-at-3 c = simp length-set (omega arith)
-
-pub bounds-buffer-at-4 : goal.bounds-buffer-at-4
-bounds-buffer-at-4 c = simp length-set (omega arith)
+use borrow.Rule.Slice.PartMut.{put_mid}
 
 pub returns : goal.returns
-returns c = let v = c.args.value in sets_four c.args.buffer.now c.args.at (v % 256) (v / 256 % 256) (v / 65536 % 256) (v / 16777216 % 256)
+returns c =
+    let a = c.args in
+    ap (λ vs. put_mid a.at (a.at + 4 - a.at) a.buffer.now vs) (c.copy_from_slice.ensures.after ∙ ap (λ l. take 4 l) c.to_le_bytes.ensures)
+    ∙ part_put a.buffer.now a.at (a.at + 4) (four_bytes a.value) (omega arith) c.requires (omega arith)
