@@ -1,7 +1,7 @@
 // One line of a blit: a source line copied, and a destination line, lent alone, drawn in the direction named.
 #![tactic(auto)]
 
-ghost use Rattle.std.specs.Prelude.{◌≡◌, cond, ◌+◌, ◌*◌, ◌≤◌, ◌<◌, eqb, length};
+ghost use Rattle.std.specs.Prelude.{◌≡◌, cond, ◌+◌, ◌*◌, ◌≤◌, ◌<◌, length};
 ghost use Rattle.pixel.specs.Pixel.{get_pixel, put_pixel};
 ghost use Rattle.blit.specs.Job.{mix_of};
 ghost use Rattle.blit.specs.declared.Mix.TheVariants.{Raster, Key};
@@ -10,14 +10,13 @@ ghost use Rattle.blit.specs.Line.{rank, lagged, work_line, copies, straight_line
 use blit::Mix;
 
 // Pixels of one colour, side by side.
-fn fill_pixels(line: &mut [u8], bytes: usize, width: usize, colour: u16)
-    requires { LineOk bytes width line.old }
-    ensures { line.new ≡ straight_line bytes (λ s d. s) (λ i. colour) width line.old }
+// Line, bytes and width are no struct: the public functions take them apart, and it would have to lend its line on to each callee.
+fn fill_pixels<const BYTES: usize>(line: &mut [u8], width: usize, colour: u16)
+    requires { LineOk BYTES width line.old }
+    ensures { line.new ≡ straight_line BYTES (λ s d. s) (λ i. colour) width line.old }
 {
-    let mut i = 0;
-    while i < width {
-        pixel_code::put_pixel(line, bytes, i * bytes, colour);
-        i += 1;
+    for i in 0..width {
+        pixel_code::put_pixel(line, BYTES, i * BYTES, colour);
     }
 }
 
@@ -26,16 +25,12 @@ pub fn copy_bytes(from: &[u8], at: usize, size: usize, to: &mut [u8])
     requires { (size ≤ length to.old) × (at + size ≤ length from.now) }
     ensures { to.new ≡ copied from.now at size to.old }
 {
-    let mut i = 0;
-    while i < size {
-        to[i] = from[at + i];
-        i += 1;
-    }
+    to[..size].copy_from_slice(&from[at..at + size]);
 }
 
 // The source pixel, or the destination pixel where the source pixel is the key colour.
-fn keyed_pixel(key: u16, s: u16, d: u16) -> u16
-    ensures { result ≡ cond (eqb s key) d s }
+fn keyed<T: Copy + PartialEq>(key: T, s: T, d: T) -> T
+    ensures { result ≡ cond (T.eq s key) d s }
 {
     if s == key { d } else { s }
 }
@@ -48,7 +43,7 @@ pub fn mixed_pixel(mix: Mix, bytes: usize, s: u16, d: u16) -> u16
     match mix {
         Mix::Store => s,
         Mix::Raster(code) => pixel_code::combine((8 * bytes) as u32, code, s, d),
-        Mix::Key(key) => keyed_pixel(key, s, d),
+        Mix::Key(key) => keyed(key, s, d),
     }
 }
 
@@ -56,11 +51,7 @@ pub fn mixed_pixel(mix: Mix, bytes: usize, s: u16, d: u16) -> u16
 fn is_copy(mix: Mix) -> bool
     ensures { result ≡ copies mix }
 {
-    match mix {
-        Mix::Store => true,
-        Mix::Raster(code) => code == 0xC,
-        Mix::Key(_) => false,
-    }
+    matches!(mix, Mix::Store | Mix::Raster(0xC))
 }
 
 // What a source pixel and the pixel at a place make, stored there.
@@ -79,50 +70,35 @@ fn raster_bytes(line: &mut [u8], code: u8, source: &[u8])
     ensures { line.new ≡ straight_line 1 (mix_of (Raster code) 1) (λ i. get_pixel 1 source.now (i * 1)) (length line.old) line.old }
 {
     let masks = pixel_code::masks_of(8, code);
-    let mut i = 0;
-    while i < line.len() {
+    for i in 0..line.len() {
         let s = pixel_code::get_pixel(source, 1, i);
         let d = pixel_code::get_pixel(line, 1, i);
         let r = pixel_code::combine_under(masks, s, d);
         pixel_code::put_pixel(line, 1, i, r);
-        i += 1;
     }
 }
 
 // The pixels of a line, each replaced by the source line's unless that is the key colour. No branch depends on a pixel.
-fn key_pixels(line: &mut [u8], bytes: usize, width: usize, key: u16, source: &[u8])
-    requires { LineOk bytes width line.old × (width * bytes ≤ length source.now) }
-    ensures { line.new ≡ straight_line bytes (mix_of (Key key) bytes) (λ i. get_pixel bytes source.now (i * bytes)) width line.old }
+fn key_pixels<const BYTES: usize>(line: &mut [u8], width: usize, key: u16, source: &[u8])
+    requires { LineOk BYTES width line.old × (width * BYTES ≤ length source.now) }
+    ensures { line.new ≡ straight_line BYTES (mix_of (Key key) BYTES) (λ i. get_pixel BYTES source.now (i * BYTES)) width line.old }
 {
-    let mut i = 0;
-    while i < width {
-        let at = i * bytes;
-        let s = pixel_code::get_pixel(source, bytes, at);
-        let d = pixel_code::get_pixel(line, bytes, at);
-        let r = keyed_pixel(key, s, d);
-        pixel_code::put_pixel(line, bytes, at, r);
-        i += 1;
+    for i in 0..width {
+        let at = i * BYTES;
+        let s = pixel_code::get_pixel(source, BYTES, at);
+        let d = pixel_code::get_pixel(line, BYTES, at);
+        let r = keyed(key, s, d);
+        pixel_code::put_pixel(line, BYTES, at, r);
     }
 }
 
-// The source byte, or the destination byte where the source byte is the key colour.
-fn keyed_byte(key: u8, new: u8, old: u8) -> u8
-    ensures { result ≡ cond (eqb new key) old new }
-{
-    if new == key { old } else { new }
-}
-
-// The same at one byte to a pixel, and a key colour of one byte.
+// The same at one byte to a pixel, and a key colour of one byte: bytes are compared as bytes, more of them at once.
 fn key_bytes(line: &mut [u8], width: usize, key: u8, source: &[u8])
     requires { LineOk 1 width line.old × (width ≤ length source.now) }
     ensures { line.new ≡ straight_line 1 (mix_of (Key key) 1) (λ i. get_pixel 1 source.now (i * 1)) width line.old }
 {
-    let mut i = 0;
-    while i < width {
-        let s = source[i];
-        let d = line[i];
-        line[i] = keyed_byte(key, s, d);
-        i += 1;
+    for i in 0..width {
+        line[i] = keyed(key, source[i], line[i]);
     }
 }
 
@@ -131,15 +107,13 @@ fn key_worker(line: &mut [u8], bytes: usize, width: usize, key: u16, source: &[u
     requires { LineOk bytes width line.old × (width * bytes ≤ length source.now) }
     ensures { line.new ≡ straight_line bytes (mix_of (Key key) bytes) (λ i. get_pixel bytes source.now (i * bytes)) width line.old }
 {
-    if bytes == 1 {
-        if key < 256 {
-            key_bytes(line, width, key as u8, source);
-            return;
-        }
-        key_pixels(line, 1, width, key, source);
-        return;
+    if bytes == 2 {
+        key_pixels::<2>(line, width, key, source);
+    } else if key < 256 {
+        key_bytes(line, width, key as u8, source);
+    } else {
+        key_pixels::<1>(line, width, key, source);
     }
-    key_pixels(line, 2, width, key, source);
 }
 
 // Pixels of a source line and those of the line, mixed side by side. The mix is looked at once, not pixel by pixel.
@@ -155,6 +129,7 @@ fn combine_pixels(line: &mut [u8], bytes: usize, width: usize, mix: Mix, source:
 }
 
 // Which pixel of a line, from its low end, is drawn as the n-th.
+#[tactic(auto, using(blit::proofs::Worker::rank_up, blit::proofs::Worker::rank_down))]
 fn rank_of(down: bool, width: usize, n: usize) -> usize
     requires { n < width }
     ensures { (result ≡ rank down width n) × (result < width) }
@@ -163,6 +138,7 @@ fn rank_of(down: bool, width: usize, n: usize) -> usize
 }
 
 // The source of the n-th drawn pixel: from the source line, or, from the lag on, the line's own pixel that many pixels back.
+#[tactic(auto, using(blit::proofs::Worker::lag_early, blit::proofs::Worker::lag_late))]
 fn lagged_pixel(
     line: &[u8],
     down: bool,
@@ -196,28 +172,27 @@ fn smear_pixels(
     requires { LineOk bytes width line.old × (width * bytes ≤ length source.now) }
     ensures { line.new ≡ work_line down bytes width mix source.now lag width line.old }
 {
-    let mut n = 0;
-    while n < width {
+    for n in 0..width {
         let v = lagged_pixel(line, down, bytes, width, source, lag, n);
         let k = rank_of(down, width, n);
         combine_pixel(line, bytes, k * bytes, mix, v);
-        n += 1;
     }
 }
 
-// Draws one colour over a lent line.
+// Draws one colour over a lent line. The bytes of a pixel are a constant of the loop.
 pub fn fill_worker(line: &mut [u8], bytes: usize, width: usize, colour: u16)
     requires { LineOk bytes width line.old }
     ensures { line.new ≡ straight_line bytes (λ s d. s) (λ i. colour) width line.old }
 {
     if bytes == 1 {
-        fill_pixels(line, 1, width, colour);
+        fill_pixels::<1>(line, width, colour);
     } else {
-        fill_pixels(line, 2, width, colour);
+        fill_pixels::<2>(line, width, colour);
     }
 }
 
 // Draws a source line over a lent line, pixel by pixel in the direction named. From the lag on the source is the line itself.
+#[tactic(auto, using(blit::proofs::Straight::combine_work))]
 pub fn pixel_worker(
     line: &mut [u8],
     down: bool,
@@ -232,12 +207,13 @@ pub fn pixel_worker(
 {
     if lag < width {
         smear_pixels(line, down, bytes, width, mix, source, lag);
-        return;
+    } else {
+        combine_pixels(line, bytes, width, mix, source);
     }
-    combine_pixels(line, bytes, width, mix, source);
 }
 
 // The same, with the source line's bytes copied where a mix that copies does not smear.
+#[tactic(auto, using(blit::proofs::Straight::copy_work))]
 pub fn line_worker(
     line: &mut [u8],
     down: bool,
@@ -250,11 +226,9 @@ pub fn line_worker(
     requires { LineOk bytes width line.old × (width * bytes ≤ length source.now) }
     ensures { line.new ≡ work_line down bytes width mix source.now lag width line.old }
 {
-    if is_copy(mix) {
-        if width <= lag {
-            copy_bytes(source, 0, width * bytes, line);
-            return;
-        }
+    if is_copy(mix) && width <= lag {
+        copy_bytes(source, 0, width * bytes, line);
+    } else {
+        pixel_worker(line, down, bytes, width, mix, source, lag);
     }
-    pixel_worker(line, down, bytes, width, mix, source, lag);
 }

@@ -1,23 +1,17 @@
 use mathlib.Core.Path.{◌≡◌, ap, ap₂, ◌∙◌}
 use native.Mathlib.Numerals.{add-one}
-use native.Mathlib.Omega.{arith}
-use lib.ListN.{length}
 use Rattle.pixel.specs.Pixel.{get_pixel, put_pixel}
 use Rattle.pixel.specs.Masking.{masked}
 use Rattle.pixel.specs.declared.Masks.{Masks}
-use Rattle.pixel.proofs.Pixels.{length_put}
 use Rattle.pixel.proofs.Masking.{at_once}
 use Rattle.blit.specs.Job.{mix_of}
 use Rattle.blit.specs.declared.Mix.TheVariants.{Raster}
 use Rattle.blit.proofs.Bytes.{bytewise_more}
-use Rattle.blit.proofs.Worker.{straight_none, straight_end}
+use Rattle.blit.proofs.Worker.{straight_none}
 use Rattle.blit_line.proofs.raster_bytes.Goals as goal
 
-pub masks_of-masks-requires : goal.masks_of-masks-requires
-masks_of-masks-requires c = omega arith
-
 pub loop-i-init : goal.loop-i-init
-loop-i-init c = (omega arith, omega arith, straight_none _ _ _ _)
+loop-i-init c = straight_none _ _ _ _
 
 pub loop-i-preserved : goal.loop-i-preserved
 loop-i-preserved c = let l = c.loop-i in
@@ -29,14 +23,8 @@ loop-i-preserved c = let l = c.loop-i in
     c.combine_under-r.ensures
     ∙ ap₂ (masked masks.result) c.get_pixel-s.ensures c.get_pixel-d.ensures
     ∙ ap (λ (m : Masks). masked m x y) masks.ensures
-    ∙ at_once 8 a.code x y in (
-      omega arith,
-      ap length c.put_pixel.ensures ∙ length_put _ _ _ _ ∙ l.invariant.1,
-      rw add-one
-          (c.put_pixel.ensures
-          ∙ ap (put_pixel 1 l.line l.i) drawn
-          ∙ bytewise_more a.code a.source.now a.line.now l.i l.line l.invariant.2),
-    )
-
-pub returns : goal.returns
-returns c = straight_end _ _ _ _ _ _ _ c.loop-i.invariant.2 (omega arith)
+    ∙ at_once 8 a.code x y in
+    rw add-one
+    (c.put_pixel.ensures
+    ∙ ap (put_pixel 1 l.line l.i) drawn
+    ∙ bytewise_more a.code a.source.now a.line.now l.i l.line l.invariant)
