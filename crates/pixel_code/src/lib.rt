@@ -9,25 +9,19 @@ ghost use Rattle.pixel.specs.Masking.{masks_of, chosen, masked};
 
 use pixel::Masks;
 
-// A byte as a wider number.
-fn wide(x: u8) -> u16
-    ensures { (result ≡ x) × (result < 256) }
-{
-    x as u16
-}
-
 // Whether the chip has the depth.
+#[tactic(auto, unfolding(pixel::specs::Depth::is_depth))]
 pub fn is_depth(depth: u32) -> bool
     ensures { result ≡ is_depth depth }
 {
-    (depth == 1) | ((depth == 2) | ((depth == 4) | ((depth == 8) | (depth == 16))))
+    matches!(depth, 1 | 2 | 4 | 8 | 16)
 }
 
 // Pixels in a dword; 0 where the depth is 0.
 pub fn per_dword(depth: u32) -> u32
     ensures { result ≡ per_dword depth }
 {
-    if depth == 0 { 0 } else { 32 / depth }
+    32u32.checked_div(depth).unwrap_or(0)
 }
 
 // The pixel of `bytes` bytes at a place of a part of memory.
@@ -36,10 +30,9 @@ pub fn get_pixel(s: &[u8], bytes: usize, at: usize) -> u16
     ensures { result ≡ get_pixel bytes s.now at }
 {
     if bytes == 1 {
-        return wide(s[at]);
+        return u16::from(s[at]);
     }
-    let high = wide(s[at + 1]);
-    wide(s[at]) + 256 * high
+    u16::from_le_bytes([s[at], s[at + 1]])
 }
 
 // Stores a pixel of `bytes` bytes at a place of a part of memory.
@@ -47,9 +40,10 @@ pub fn put_pixel(s: &mut [u8], bytes: usize, at: usize, v: u16)
     requires { (0 < bytes) × (bytes ≤ 2) × (at + bytes ≤ length s.old) }
     ensures { s.new ≡ put_pixel bytes s.old at v }
 {
-    s[at] = (v % 256) as u8;
+    let [low, high] = v.to_le_bytes();
+    s[at] = low;
     if bytes == 2 {
-        s[at + 1] = (v / 256 % 256) as u8;
+        s[at + 1] = high;
     }
 }
 
@@ -78,7 +72,7 @@ pub fn stored_pixel(depth: u32, memory: &[u8], at: usize, bit: u32) -> u16
         return get_pixel(memory, 2, at);
     }
     let right = bit + 1 - depth;
-    (wide(memory[at]) >> right) % (1u16 << depth)
+    (u16::from(memory[at]) >> right) % (1u16 << depth)
 }
 
 // So many ones.

@@ -1,13 +1,9 @@
 use native.Mathlib.Omega.{arith}
-use lib.ListN.{length-set}
 use Rattle.pixel.proofs.Pixels.{put_is_one, put_is_two}
 use Rattle.pixel_code.proofs.put_pixel.Goals as goal
 
-pub bounds-s-at-then-bytes-eq2 : goal.bounds-s-at-then-bytes-eq2
-bounds-s-at-then-bytes-eq2 c = simp length-set (omega arith)
-
 pub returns-then-bytes-eq2 : goal.returns-then-bytes-eq2
-returns-then-bytes-eq2 c = put_is_two _ _ _ _ (omega arith)
+returns-then-bytes-eq2 c = rw c.to_le_bytes.ensures (put_is_two _ _ _ _ (omega arith))
 
 pub returns-else-bytes-eq2 : goal.returns-else-bytes-eq2
-returns-else-bytes-eq2 c = put_is_one _ _ _ _ (omega arith)
+returns-else-bytes-eq2 c = rw c.to_le_bytes.ensures (put_is_one _ _ _ _ (omega arith))

@@ -37,5 +37,5 @@ nonzero_rem-result c = let d = c.args.depth in
 
 pub returns : goal.returns
 returns c = let s = c in
-    rw (c.wide.ensures.0, shifted s.args.depth (narrow c.args.depth c.requires.0 c.if-depth-eq16.false))
+    rw (c.from.ensures, shifted s.args.depth (narrow c.args.depth c.requires.0 c.if-depth-eq16.false))
     (stored_narrow s.args.depth s.args.at s.args.bit s.args.memory.now (narrow c.args.depth c.requires.0 c.if-depth-eq16.false))
