@@ -144,9 +144,8 @@ fn put_narrow(words: &mut [u16], at: usize, a: Ask, glyph: &[u8])
     ensures { words.new ≡ sets words.old at (glyph_words a glyph.now) }
 {
     let p = pairs(a);
-    let mut j = 0;
-    while j < 8 {
-        let row = record_code::wide(glyph[j]) as usize;
+    for j in 0..8 {
+        let row = usize::from(glyph[j]);
         put_four(
             words,
             at + 4 * j,
@@ -155,7 +154,6 @@ fn put_narrow(words: &mut [u16], at: usize, a: Ask, glyph: &[u8])
             p[(row >> 2) % 4],
             p[row % 4],
         );
-        j += 1;
     }
 }
 
@@ -167,11 +165,9 @@ fn put_wide(words: &mut [u16], at: usize, a: Ask, glyph: &[u8])
     ensures { words.new ≡ sets words.old at (glyph_words a glyph.now) }
 {
     let p = [a.background, a.bar];
-    let mut k = 0;
-    while k < 64 {
-        let row = record_code::wide(glyph[k / 8]) as usize;
+    for k in 0..64 {
+        let row = usize::from(glyph[k / 8]);
         words[at + k] = p[(row >> (7 - k % 8)) % 2];
-        k += 1;
     }
 }
 
@@ -198,10 +194,8 @@ pub fn put_digits<'a>(words: &mut [u16], a: Ask, site: &'a [u8], factory: &'a [u
     ensures { words.new ≡ sets words.old 0 (digit_words a site.now factory.now digits.now) }
 {
     let n = words_per_glyph(a);
-    let mut i = 0;
-    while i < digits.len() {
-        let g = glyph(site, factory, record_code::wide(digits[i]));
+    for (i, digit) in digits.iter().enumerate() {
+        let g = glyph(site, factory, u32::from(*digit));
         put_glyph(words, n * i, a, g);
-        i += 1;
     }
 }

@@ -18,14 +18,14 @@ overflow_mul-n c =
 pub put_glyph-requires : goal.put_glyph-requires
 put_glyph-requires c =
     let l = c.loop-i in
-    let lent = part_holds _ _ _ _ c.glyph-g.ensures ∙ ap (λ (d : ℕ). glyph_of c.args.site.now c.args.factory.now d) c.wide.ensures.0 in
+    let lent = part_holds _ _ _ _ c.glyph-g.ensures ∙ ap (λ (d : ℕ). glyph_of c.args.site.now c.args.factory.now d) c.from.ensures in
     let ends = digit_fits _ c.args.site.now c.args.factory.now _ _ _ c.words_per_glyph-n.ensures l.words l.i l.invariant c.loop-i-test.true c.requires.digits_in_bounds in
     record { checked = c.requires.checked; glyph_len = rw lent (glyph_whole _ _ _ c.requires.in_bounds (c.requires.all_below _)); depth_in_bounds = omega (arith, ends, c.words_per_glyph-n.ensures) }
 
 pub loop-i-preserved : goal.loop-i-preserved
 loop-i-preserved c =
     let l = c.loop-i in
-    let lent = part_holds _ _ _ _ c.glyph-g.ensures ∙ ap (λ (d : ℕ). glyph_of c.args.site.now c.args.factory.now d) c.wide.ensures.0 in
+    let lent = part_holds _ _ _ _ c.glyph-g.ensures ∙ ap (λ (d : ℕ). glyph_of c.args.site.now c.args.factory.now d) c.from.ensures in
     digit_turn _ _ _ _ _ _ c.words_per_glyph-n.ensures l.words _ l.i l.invariant c.loop-i-test.true (rw lent at c.put_glyph.ensures)
 
 pub returns : goal.returns

@@ -14,7 +14,7 @@ pub put_four-requires : goal.put_four-requires
 put_four-requires c = omega (arith, (c.loop-j.invariant c.args.a c.requires.depth_value c.pairs-p.ensures).same, c.requires.at_in_bounds, c.loop-j-test.true)
 
 pub loop-j-preserved : goal.loop-j-preserved
-loop-j-preserved c = λ a d e. narrow_turn a _ _ _ c.loop-j.words c.loop-j.j c.wide-row.result _ _ d e c.wide-row.ensures.0 (c.loop-j.invariant a d e) c.loop-j-test.true c.put_four.ensures
+loop-j-preserved c = λ a d e. narrow_turn a _ _ _ c.loop-j.words c.loop-j.j c.from-row.result _ _ d e c.from-row.ensures (c.loop-j.invariant a d e) c.loop-j-test.true c.put_four.ensures
 
 pub shape_of-words : goal.shape_of-words
 shape_of-words c = (c.loop-j.invariant c.args.a c.requires.depth_value c.pairs-p.ensures).same

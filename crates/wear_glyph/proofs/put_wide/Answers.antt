@@ -11,7 +11,7 @@ pub bounds-words-at : goal.bounds-words-at
 bounds-words-at c = omega (arith, (c.loop-k.invariant c.args.a c.requires.fact refl).same, c.requires.at_in_bounds, c.loop-k-test.true)
 
 pub loop-k-preserved : goal.loop-k-preserved
-loop-k-preserved c = λ a d e. pixel_turn a _ _ _ c.loop-k.words c.loop-k.k c.wide-row.result _ d e c.wide-row.ensures.0 (c.loop-k.invariant a d e) c.loop-k-test.true
+loop-k-preserved c = λ a d e. pixel_turn a _ _ _ c.loop-k.words c.loop-k.k c.from-row.result _ d e c.from-row.ensures (c.loop-k.invariant a d e) c.loop-k-test.true
 
 pub shape_of-words : goal.shape_of-words
 shape_of-words c = (c.loop-k.invariant c.args.a c.requires.fact refl).same
