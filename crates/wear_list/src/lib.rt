@@ -65,12 +65,10 @@ pub fn columns_reach(a: Ask, heights: &[u32]) -> bool
     requires drawable { Drawable heights.now }
     ensures { result ≡ all_in_reach (columns a 0 heights.now) }
 {
-    let mut c = 0;
-    while c < heights.len() {
-        if !column_reach(a, c as u32, heights[c]) {
+    for (c, height) in heights.iter().enumerate() {
+        if !column_reach(a, c as u32, *height) {
             return false;
         }
-        c += 1;
     }
     true
 }
@@ -104,13 +102,29 @@ pub fn column_commands(heights: &[u32]) -> usize
     ensures { result ≡ command_count heights.now }
 {
     let mut n = 0;
-    let mut c = 0;
-    while c < heights.len() {
-        n += column_count(heights[c]);
-        c += 1;
+    for height in heights {
+        n += column_count(*height);
     }
     n
 }
+
+// A command whose numbers are all 0, for those that a command of the strip does not set.
+const ZEROS: Command = Command {
+    operation: 0,
+    surface: 0,
+    raster: 0,
+    x: 0,
+    y: 0,
+    width: 0,
+    height: 0,
+    sx: 0,
+    sy: 0,
+    colour: 0,
+    key: 0,
+    px: 0,
+    py: 0,
+    pattern: 0,
+};
 
 // A fill on the main image.
 fn fill_at(x: u32, y: u32, width: u32, height: u32, colour: u16) -> Command
@@ -119,20 +133,12 @@ fn fill_at(x: u32, y: u32, width: u32, height: u32, colour: u16) -> Command
     ensures { result ≡ fill_at x y width height colour }
 {
     Command {
-        operation: 0,
-        surface: 0,
-        raster: 0,
         x: x as u16,
         y: y as u16,
         width: width as u16,
         height: height as u16,
-        sx: 0,
-        sy: 0,
         colour,
-        key: 0,
-        px: 0,
-        py: 0,
-        pattern: 0,
+        ..ZEROS
     }
 }
 
@@ -170,11 +176,8 @@ pub fn put_columns(list: &mut [u8], a: Ask, heights: &[u32]) -> usize
     ensures list_after { list.new ≡ sets list.old 0 (list_bytes (columns a 0 heights.now)) }
 {
     let mut at = 0;
-    let mut c = 0;
-    while c < heights.len() {
-        let height = heights[c];
-        at = put_column(list, at, a, c as u32, height);
-        c += 1;
+    for (c, height) in heights.iter().enumerate() {
+        at = put_column(list, at, a, c as u32, *height);
     }
     at
 }
@@ -186,19 +189,12 @@ fn glyph_at(x: u32, y: u32) -> Command
 {
     Command {
         operation: 2,
-        surface: 0,
         raster: 12,
         x: x as u16,
         y: y as u16,
         width: 8,
         height: 8,
-        sx: 0,
-        sy: 0,
-        colour: 0,
-        key: 0,
-        px: 0,
-        py: 0,
-        pattern: 0,
+        ..ZEROS
     }
 }
 
@@ -209,10 +205,8 @@ pub fn put_writes(list: &mut [u8], at: usize, a: Ask, digits: &[u8])
     requires digits_in_bounds { at + length (list_bytes (writes a 0 digits.now)) ≤ length list.old }
     ensures { list.new ≡ sets list.old at (list_bytes (writes a 0 digits.now)) }
 {
-    let mut i = 0;
-    while i < digits.len() {
+    for i in 0..digits.len() {
         let c = glyph_at(a.x as u32 + i as u32 * 8, a.y as u32 + 100);
         put_command(list, at + 32 * i, c);
-        i += 1;
     }
 }
