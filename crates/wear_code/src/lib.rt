@@ -16,7 +16,7 @@ fn fault_of(a: Ask, factory: u64) -> u32
     ensures { result ≡ first_of (ask_rows a factory) }
 {
     let d = a.depth;
-    if !((d == 1) | ((d == 2) | ((d == 4) | ((d == 8) | (d == 16))))) {
+    if !pixel_code::is_depth(d) {
         return 2;
     }
     if d < 8 {
@@ -97,7 +97,8 @@ pub fn wear_strip<'a>(
     make_strip(a, &heights[..n], &digits[..k], site, factory, list, words)
 }
 
-// The same of a ring as a C caller holds it.
+// The same of a ring as a C caller holds it. Only how the heights and the newest number are read differs: a trait over both forms would be
+// longer.
 pub fn strip_in<'a>(
     cells: &[u16; 1026],
     a: Ask,
