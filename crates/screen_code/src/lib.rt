@@ -47,17 +47,18 @@ fn is_well_formed(b: &[u8]) -> bool
 }
 
 // Refusal 4.
+#[tactic(auto, unfolding(screen::specs::Screen::panel_ok))]
 pub fn is_panel(width: u32, height: u32) -> bool
     ensures { result ≡ panel_ok width height }
 {
-    (width % 8 == 0) & ((8 <= width) & ((width <= 1024) & ((1 <= height) & (height <= 1024))))
+    (width % 8 == 0) & (8..=1024).contains(&width) & (1..=1024).contains(&height)
 }
 
 // Whether the view is turned by 90 or 270 degrees.
-fn is_quarter(rotation: u32) -> bool
+pub fn is_quarter(rotation: u32) -> bool
     ensures { result ≡ quarter rotation }
 {
-    (rotation == 1) | (rotation == 3)
+    matches!(rotation, 1 | 3)
 }
 
 pub fn view_width(rotation: u32, width: u32, height: u32) -> u32
@@ -81,7 +82,7 @@ pub fn is_whole(depth: u32, n: u32) -> bool
 }
 
 // The bytes of n pixels.
-fn line_bytes(depth: u8, n: u16) -> u32
+pub fn line_bytes(depth: u8, n: u16) -> u32
     ensures { result ≡ line_bytes depth n }
 {
     (n as u32) * (depth as u32) / 8
