@@ -1,10 +1,10 @@
 // The registers once a record is written, and admitting the records of a stream on registers and sizes alone.
 #![tactic(auto)]
 
-ghost use Rattle.std.specs.Prelude.{◌≡◌, false, cond, ◌+◌, ◌-◌, ◌/◌, ◌≤◌, length, [], ◌∷◌};
+ghost use Rattle.std.specs.Prelude.{◌≡◌, false, ◌+◌, ◌-◌, ◌/◌, ◌≤◌, length, [], ◌∷◌};
 ghost use Rattle.record.specs.Record.{records_from, records_of};
 ghost use Rattle.chip.specs.Register.{listed, fits, screen_after, blit_after};
-ghost use Rattle.chip.specs.Start.{by_blit, whole_at, source_fits, startable, span, forward, backward, pattern_within, within};
+ghost use Rattle.chip.specs.Start.{whole_at, source_fits, startable, span, forward, backward, pattern_within, within};
 ghost use Rattle.chip.specs.Admit.{is_data, starts, refusal, due_of, chip_after};
 ghost use Rattle.chip.specs.Play.{new_chip, run};
 ghost use Rattle.chip.specs.Words.{is_word, words_ahead, words_taken};
@@ -13,13 +13,6 @@ ghost use Rattle.record.specs.Checks.{first_of, row};
 use chip::{Chip, Due, Registers, Run};
 use record::Record;
 use screen::{Origin, ScreenValues};
-
-// One of two values, by a test.
-fn choose(t: bool, a: u32, b: u32) -> u32
-    ensures { result ≡ cond t a b }
-{
-    if t { a } else { b }
-}
 
 // Whether a number is a listed register or 10000h.
 fn is_listed(number: u32) -> bool
@@ -72,15 +65,15 @@ pub fn blit_after(b: Registers, number: u32, value: u32) -> Registers
     ensures { result ≡ blit_after b number value }
 {
     Registers {
-        control: choose(number == 0x8000, value, b.control),
-        command: choose(number == 0x8008, value, b.command),
-        source: choose(number == 0x800C, value, b.source),
-        destination: choose(number == 0x8010, value, b.destination),
-        offset: choose(number == 0x8014, value, b.offset),
-        width: choose(number == 0x8018, value, b.width),
-        height: choose(number == 0x801C, value, b.height),
-        background: choose(number == 0x8020, value, b.background),
-        foreground: choose(number == 0x8024, value, b.foreground),
+        control: record_code::choose(number == 0x8000, value, b.control),
+        command: record_code::choose(number == 0x8008, value, b.command),
+        source: record_code::choose(number == 0x800C, value, b.source),
+        destination: record_code::choose(number == 0x8010, value, b.destination),
+        offset: record_code::choose(number == 0x8014, value, b.offset),
+        width: record_code::choose(number == 0x8018, value, b.width),
+        height: record_code::choose(number == 0x801C, value, b.height),
+        background: record_code::choose(number == 0x8020, value, b.background),
+        foreground: record_code::choose(number == 0x8024, value, b.foreground),
     }
 }
 
@@ -91,32 +84,6 @@ fn span_of(b: Registers) -> u64
     let lines = (b.height % 1024) as u64 * chip_due::line_of(b);
     let pixels = (b.width % 1024) as u64 * chip_due::bytes_of(b);
     lines + pixels
-}
-
-// A flag for each operation of the model, and one for any other number.
-fn by_blit(
-    operation: u32,
-    write: bool,
-    up: bool,
-    down: bool,
-    transparent: bool,
-    pattern: bool,
-    keyed: bool,
-    fill: bool,
-    other: bool,
-) -> bool
-    ensures { result ≡ by_blit operation write up down transparent pattern keyed fill other }
-{
-    match operation {
-        0 => write,
-        2 => up,
-        3 => down,
-        5 => transparent,
-        6 => pattern,
-        7 => keyed,
-        0xC => fill,
-        _ => other,
-    }
 }
 
 // Whether an address is one of whole pixels: even at depth 16.
@@ -130,22 +97,17 @@ fn is_whole(b: Registers, address: u32) -> bool
 }
 
 // What is asked of the source address.
+#[tactic(auto, unfolding(chip::specs::Start::source_fits))]
 fn source_fits(b: Registers) -> bool
     ensures { result ≡ source_fits b }
 {
     let source = chip_due::source_of(b);
-    let whole = is_whole(b, source);
-    by_blit(
-        chip_due::operation_of(b),
-        source == 0,
-        whole,
-        whole,
-        whole,
-        whole,
-        whole,
-        true,
-        false,
-    )
+    match chip_due::operation_of(b) {
+        0 => source == 0,
+        2 | 3 | 5 | 6 | 7 => is_whole(b, source),
+        0xC => true,
+        _ => false,
+    }
 }
 
 // Refusal 21: whether the model has an operation for the start.
@@ -180,26 +142,19 @@ fn fits_pattern(memory: u64, b: Registers) -> bool
 }
 
 // Refusal 22: whether every byte that the blit touches lies in the memory.
+#[tactic(auto, unfolding(chip::specs::Start::within))]
 fn is_within(memory: u64, b: Registers) -> bool
     ensures { result ≡ within memory b }
 {
     let source = chip_due::source_of(b);
     let destination = chip_due::destination_of(b);
-    let up = fits_forward(memory, b, destination);
-    let both = up & fits_forward(memory, b, source);
-    let down = fits_backward(memory, b, destination) & fits_backward(memory, b, source);
-    let pattern = up & fits_pattern(memory, b);
-    by_blit(
-        chip_due::operation_of(b),
-        up,
-        both,
-        down,
-        both,
-        pattern,
-        pattern,
-        up,
-        true,
-    )
+    match chip_due::operation_of(b) {
+        0 | 0xC => fits_forward(memory, b, destination),
+        2 | 5 => fits_forward(memory, b, destination) & fits_forward(memory, b, source),
+        3 => fits_backward(memory, b, destination) & fits_backward(memory, b, source),
+        6 | 7 => fits_forward(memory, b, destination) & fits_pattern(memory, b),
+        _ => true,
+    }
 }
 
 // 8000h with bit 0 set.
@@ -265,11 +220,9 @@ pub fn refusal_of(memory: u64, c: Chip, r: Record) -> u32
 fn due_of(b: Registers, r: Record) -> Due
     ensures { result ≡ due_of b r }
 {
-    let any = starts_blit(r) & (chip_due::operation_of(b) == 0);
     Due {
-        any,
-        line: 0,
-        word: 0,
+        any: starts_blit(r) & (chip_due::operation_of(b) == 0),
+        ..chip_due::NO_WORD
     }
 }
 
@@ -288,17 +241,13 @@ pub fn register_after(c: Chip, r: Record) -> Chip
 pub fn new_chip() -> Chip
     ensures { result ≡ new_chip }
 {
-    let main = Origin {
-        start: 0,
-        offset: 0,
-    };
-    let window = Origin {
+    let origin = Origin {
         start: 0,
         offset: 0,
     };
     let screen = ScreenValues {
-        main,
-        window,
+        main: origin,
+        window: origin,
         x: 0,
         y: 0,
     };
@@ -313,11 +262,7 @@ pub fn new_chip() -> Chip
         background: 0,
         foreground: 0,
     };
-    let due = Due {
-        any: false,
-        line: 0,
-        word: 0,
-    };
+    let due = chip_due::NO_WORD;
     Chip { screen, blit, due }
 }
 
@@ -333,13 +278,11 @@ pub fn words_ahead(stream: &[u8], i: usize, most: usize) -> usize
     requires { i + most ≤ length stream.now / 8 }
     ensures { result ≡ words_ahead (records_from stream.now i most) }
 {
-    let mut n = 0;
-    while n < most {
+    for n in 0..most {
         let r = record_code::record_at(stream, i + n);
         if !is_word(r) {
             return n;
         }
-        n += 1;
     }
     most
 }
@@ -353,7 +296,7 @@ fn words_taken(c: Chip, stream: &[u8], i: usize, count: usize) -> usize
     if !d.any {
         return 0;
     }
-    let most = record_code::least(chip_due::words_due(c.blit, d) as usize, count - i);
+    let most = (chip_due::words_due(c.blit, d) as usize).min(count - i);
     words_ahead(stream, i, most)
 }
 
@@ -365,6 +308,7 @@ pub fn check(memory: u64, start: Chip, stream: &[u8]) -> Run
     let count = stream.len() / 8;
     let mut chip = start;
     let mut i = 0;
+    // Due data words are taken several at once, so the step is not known.
     while i < count {
         let n = words_taken(chip, stream, i, count);
         if n == 0 {

@@ -1,20 +1,16 @@
 -- A started blit as crate `blit_code` takes it: its limits, and that it is what the registers say.
 use Prim.Native.Nat.{ℕ, zero, suc, ◌+◌, ◌-◌, ◌*◌, ◌%◌, ◌≤◌, ◌<◌}
-use mathlib.Core.Path.{◌≡◌, refl, sym, ap, ◌∙◌}
+use mathlib.Core.Path.{◌≡◌, refl}
 use mathlib.Core.Bool.{Bool, true, false, ◌&&◌, cond}
-use mathlib.Core.Logic.{◌⊎◌, ⊎_elim}
 use mathlib.Core.List.{List}
 use native.Mathlib.Nat.{suc-mul}
 use native.Mathlib.Numerals.{add-one}
 use native.Mathlib.Omega.{arith}
 use lib.Dec.{eqb, leb}
-use borrow.Author.Tests.{eqb-true, ne_eqb, leb-true}
+use borrow.Author.Tests.{eqb-true, leb-true}
 use Rattle.record.proofs.Choice.{and_left, and_right}
 use Rattle.blit.specs.Job.{performed, LineIn, SourceIn, JobOk}
-use Rattle.blit.specs.declared.Mix.TheVariants.{Store, Raster, Key}
-use Rattle.blit.specs.declared.From.{From}
-use Rattle.blit.specs.declared.From.TheVariants.{Colour, Memory, Pattern}
-use Rattle.chip.specs.Start.{operation, raster_code, bytes_of, line_of, width_of, height_of, source_of, destination_of, foreground_of, key_of, pattern_base, pattern_line, pattern_column, whole_at, source_fits, startable, span, forward, backward, pattern_within, within, mix_by, from_by, job_of, started}
+use Rattle.chip.specs.Start.{operation, bytes_of, line_of, width_of, height_of, source_of, destination_of, pattern_base, whole_at, source_fits, startable, span, forward, backward, pattern_within, within, mix_by, from_by, job_of, started}
 use Rattle.chip.specs.declared.Registers.{Registers}
 use Rattle.chip.proofs.Starts.{operations}
 
@@ -118,49 +114,3 @@ module _ (m : ℕ) (b : Registers) where
 pub job_started : (b : Registers) → startable b ≡ true → (operation b ≡ 0 → ⊥) → (old : List ℕ) → performed (job_of b) old ≡ started b old
 unfolding started
 job_started b can some old = operations b can (λ e. absurd (some e)) (λ e. rw e) (λ e. rw e) (λ e. rw e) (λ e. rw e) (λ e. rw e) (λ e. rw e)
-
--- ---- the registers' mix and source, by a number n that is the operation
-
-same : {A : Type 0} (t : Bool) (x : A) → x ≡ cond t x x
-same true x = refl
-same false x = refl
-
-module _ (b : Registers) (n : ℕ) (is : n ≡ operation b) where
-  yes : (k : ℕ) → n ≡ k → operation b ≡ k
-  yes k e = sym is ∙ e
-
-  other : (k : ℕ) → (n ≡ k → ⊥) → eqb (operation b) k ≡ false
-  other k f = ne_eqb (operation b) k (λ e. f (is ∙ e))
-
-  pub mix_combines : (code : ℕ) → code ≡ raster_code b → (n ≡ 0) ⊎ ((n ≡ 2) ⊎ ((n ≡ 3) ⊎ (n ≡ 6))) → Raster code ≡ mix_by b
-  unfolding mix_by
-  mix_combines code e h =
-      ap (λ (x : ℕ). Raster x) e
-      ∙ ⊎_elim (λ x. rw (yes 0 x)) (λ y. ⊎_elim (λ x. rw (yes 2 x)) (λ z. ⊎_elim (λ x. rw (yes 3 x)) (λ x. rw (yes 6 x)) z) y) h
-
-  pub mix_keeps : (key : ℕ) → key ≡ key_of b → (n ≡ 5) ⊎ (n ≡ 7) → Key key ≡ mix_by b
-  unfolding mix_by
-  mix_keeps key e h = ap (λ (x : ℕ). Key x) e ∙ ⊎_elim (λ x. rw (yes 5 x)) (λ x. rw (yes 7 x)) h
-
-  pub mix_stores : (n ≡ 0 → ⊥) → (n ≡ 2 → ⊥) → (n ≡ 3 → ⊥) → (n ≡ 5 → ⊥) → (n ≡ 6 → ⊥) → (n ≡ 7 → ⊥) → Store ≡ mix_by b
-  unfolding mix_by
-  mix_stores no-0 no-2 no-3 no-5 no-6 no-7 =
-      rw (other 0 no-0, other 2 no-2, other 3 no-3, other 5 no-5, other 6 no-6, other 7 no-7) (same (eqb (operation b) 0xC) Store)
-
-  pub from_memory : (source : ℕ) → source ≡ source_of b → (n ≡ 2) ⊎ ((n ≡ 3) ⊎ (n ≡ 5)) → Memory source ≡ from_by b
-  unfolding from_by
-  from_memory source e h =
-      ap (λ (x : ℕ). Memory x) e ∙ ⊎_elim (λ x. rw (yes 2 x)) (λ y. ⊎_elim (λ x. rw (yes 3 x)) (λ x. rw (yes 5 x)) y) h
-
-  pub from_pattern : (from : From) → from ≡ Pattern (pattern_base b) (pattern_column b) (pattern_line b) → (n ≡ 6) ⊎ (n ≡ 7) → from ≡ from_by b
-  unfolding from_by
-  from_pattern from e h = e ∙ ⊎_elim (λ x. rw (yes 6 x)) (λ x. rw (yes 7 x)) h
-
-  pub from_colour : (colour : ℕ) → colour ≡ foreground_of b → n ≡ 0xC → Colour colour ≡ from_by b
-  unfolding from_by
-  from_colour colour e h = ap (λ (x : ℕ). Colour x) e ∙ rw (yes 0xC h)
-
-  pub from_none : (n ≡ 2 → ⊥) → (n ≡ 3 → ⊥) → (n ≡ 5 → ⊥) → (n ≡ 6 → ⊥) → (n ≡ 7 → ⊥) → (n ≡ 0xC → ⊥) → Colour 0 ≡ from_by b
-  unfolding from_by
-  from_none no-2 no-3 no-5 no-6 no-7 no-12 =
-      rw (other 2 no-2, other 3 no-3, other 5 no-5, other 6 no-6, other 7 no-7, other 0xC no-12) (same (eqb (operation b) 0) (Colour 0))

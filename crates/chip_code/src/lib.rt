@@ -17,16 +17,14 @@ use record::Record;
 const MEMORY_SIZE: u64 = 262144;
 
 // What source and destination pixel make.
+#[tactic(auto, unfolding(chip::specs::Start::mix_by))]
 fn mix_by(b: Registers) -> Mix
     ensures { result ≡ mix_by b }
 {
     let operation = chip_due::operation_of(b);
     let code = chip_due::raster_code(b);
     match operation {
-        0 => Mix::Raster(code),
-        2 => Mix::Raster(code),
-        3 => Mix::Raster(code),
-        6 => Mix::Raster(code),
+        0 | 2 | 3 | 6 => Mix::Raster(code),
         5 | 7 => Mix::Key(chip_due::key_of(b)),
         _ => Mix::Store,
     }
@@ -43,6 +41,7 @@ fn pattern_of(b: Registers) -> From
 }
 
 // Where the source pixels of a move, a pattern fill or a fill are.
+#[tactic(auto, unfolding(chip::specs::Start::from_by))]
 fn from_by(b: Registers) -> From
     ensures { result ≡ from_by b }
 {
@@ -50,11 +49,8 @@ fn from_by(b: Registers) -> From
     let source = chip_due::source_of(b);
     let colour = chip_due::foreground_of(b);
     match operation {
-        2 => From::Memory(source),
-        3 => From::Memory(source),
-        5 => From::Memory(source),
-        6 => pattern_of(b),
-        7 => pattern_of(b),
+        2 | 3 | 5 => From::Memory(source),
+        6 | 7 => pattern_of(b),
         0xC => From::Colour(colour),
         _ => From::Colour(0),
     }
@@ -108,17 +104,16 @@ pub fn perform_all(start: Chip, stream: &[u8], count: usize, memory: &mut [u8])
 {
     let mut chip = start;
     let mut i = 0;
+    // The words of a line are taken several at once, so the step is not known.
     while i < count {
         let r = record_code::record_at(stream, i);
         if r.number == 0x10000 {
             let b = chip.blit;
-            let due = chip.due;
             let d = Due {
                 any: true,
-                line: due.line,
-                word: due.word,
+                ..chip.due
             };
-            let n = record_code::least(chip_due::line_due(b, d) as usize, count - i);
+            let n = (chip_due::line_due(b, d) as usize).min(count - i);
             chip_words::write_line(b, d, stream, i, n, memory);
             chip = chip_due::line_after(chip, n as u64);
             i += n;

@@ -110,7 +110,7 @@ fn words_of(b: Registers) -> u64
 }
 
 // No word is due.
-const NO_WORD: Due = Due {
+pub const NO_WORD: Due = Due {
     any: false,
     line: 0,
     word: 0,

@@ -15,5 +15,5 @@ returns c = let a = c.args in
     let s = a.stream.now in
     let left = a.count - a.i in
     c.words_ahead.ensures
-    ∙ ap (λ (k : ℕ). words_ahead (records_from s a.i k)) (c.least-most.ensures ∙ ap (λ (d : ℕ). min d left) c.words_due.ensures.0)
+    ∙ ap (λ (k : ℕ). words_ahead (records_from s a.i k)) (c.min-most.ensures ∙ ap (λ (d : ℕ). min d left) c.words_due.ensures.0)
     ∙ taken_ahead a.c s a.i left (not-false _ c.if-not-d.false)

@@ -57,7 +57,7 @@ loop-i-preserved-then-r-eq65536 c = let a = c.args in
     let s = a.stream.now in
     let n = a.count in
     let l = c.loop-i in
-    let k = c.least-n.result in
+    let k = c.min-n.result in
     let any : l.chip.due.any ≡ true =
     admitted_data memory_size l.chip (record_at s l.i) (ap is_data (sym c.record_at-r.ensures) ∙ eq-eqb _ _ c.if-r-eq65536.true)
     (admitted_next memory_size l.chip s l.i n (omega arith) l.invariant.2).0 in
