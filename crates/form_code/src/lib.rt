@@ -1,7 +1,7 @@
 // Turning a command list into its other form.
 #![tactic(auto)]
 
-ghost use Rattle.std.specs.Prelude.{◌≡◌, true, ◌&&◌, ◌+◌, ◌*◌, ◌/◌, ◌≤◌, length, replicate, ltb};
+ghost use Rattle.std.specs.Prelude.{◌≡◌, true, ◌&&◌, ◌+◌, ◌*◌, ◌/◌, ◌≤◌, length, ltb};
 ghost use Rattle.std.proofs.lemmas.List.Edits.{sets};
 ghost use Rattle.record.specs.Lists.{parts_of};
 ghost use Rattle.command.specs.Task.{short_form, long_form, is_form};
@@ -15,14 +15,12 @@ fn any_stays_long(list: &[u8]) -> bool
 {
     let count = list.len() / 48;
     let mut any = false;
-    let mut i: usize = 0;
-    while i < count {
+    for i in 0..count {
         let at = i * 48;
         let past = at + 32;
         let end = at + 48;
         let zero = record_code::all_zero(&list[past..end]);
-        any = any | ((2 < list[at]) | !zero);
-        i += 1;
+        any |= (2 < list[at]) | !zero;
     }
     any
 }
@@ -37,42 +35,16 @@ fn stays_long(from: u32, to: u32, list: &[u8]) -> bool
     false
 }
 
-// Stores bytes from `at` on.
-fn put_bytes(target: &mut [u8], at: usize, bytes: &[u8])
-    requires { at + length bytes.now ≤ length target.old }
-    ensures { target.new ≡ sets target.old at bytes.now }
-{
-    let mut i = 0;
-    while i < bytes.len() {
-        target[at + i] = bytes[i];
-        i += 1;
-    }
-}
-
-// Stores n zeros from `at` on.
-fn put_zeros(target: &mut [u8], at: usize, n: usize)
-    requires { at + n ≤ length target.old }
-    ensures { target.new ≡ sets target.old at (replicate n 0) }
-{
-    let mut i = 0;
-    while i < n {
-        target[at + i] = 0;
-        i += 1;
-    }
-}
-
-// Stores a record in a form from `at` on; its bytes are read before any is stored, so that 16 of them move at once.
+// Stores a record in a form from `at` on.
 fn put_record(b: &[u8], form: u32, target: &mut [u8], at: usize)
     requires form_value { is_form form ≡ true }
     requires in_bounds { 32 ≤ length b.now }
     requires form_in_bounds { at + form ≤ length target.old }
     ensures { target.new ≡ sets target.old at (record_in form b.now) }
 {
-    let mut first = [0u8; 32];
-    put_bytes(&mut first, 0, &b[0..32]);
-    put_bytes(target, at, &first);
+    target[at..at + 32].copy_from_slice(&b[..32]);
     if form == 48 {
-        put_zeros(target, at + 32, 16);
+        target[at + 32..at + 48].fill(0);
     }
 }
 
@@ -86,12 +58,10 @@ fn put_list(from: u32, to: u32, list: &[u8], target: &mut [u8])
     let size = from as usize;
     let step = to as usize;
     let count = list.len() / size;
-    let mut i: usize = 0;
-    while i < count {
+    for i in 0..count {
         let at = i * size;
         let end = at + size;
         put_record(&list[at..end], to, target, i * step);
-        i += 1;
     }
 }
 

@@ -1,6 +1,4 @@
-use native.Mathlib.Nat.{div-le_self}
 use native.Mathlib.Omega.{arith}
-use lib.ListN.{length}
 use Rattle.command.proofs.Forms.{form_least, part_ends}
 use Rattle.form.proofs.Loops.{putting_start, putting_turn, putting_end, room_left, part_least}
 use Rattle.form_code.proofs.put_list.Goals as goal
@@ -25,9 +23,6 @@ overflow_mul-i c = omega (arith, (part_ends _ _ _ c.loop-i-test.true), (let l = 
 
 pub put_record-requires : goal.put_record-requires
 put_record-requires c = record { form_value = c.requires.to_value; in_bounds = part_least _ _ _ c.requires.from_value c.loop-i-test.true; form_in_bounds = (let l = c.loop-i in room_left _ _ _ _ l.target _ l.i l.invariant c.loop-i-test.true c.requires.to_in_bounds) }
-
-pub overflow_add-i : goal.overflow_add-i
-overflow_add-i c = omega (arith, c.loop-i-test.true, div-le_self (length c.args.list.now) c.args.from)
 
 pub loop-i-preserved : goal.loop-i-preserved
 loop-i-preserved c = let l = c.loop-i in putting_turn _ _ _ _ l.target _ l.i l.invariant c.loop-i-test.true c.requires.from_value c.requires.to_value _ c.put_record.ensures
