@@ -2,34 +2,22 @@
 #![tactic(auto)]
 
 ghost use Rattle.std.specs.Prelude.{◌≡◌, [], ◌++◌, ◌+◌, ◌≤◌, ◌<◌, min, length, take, replicate};
+ghost use Rattle.std.proofs.Math.Seq.{paste};
 ghost use Rattle.record.specs.Bytes.{byte_at, over};
 ghost use Rattle.screen.specs.Narrow.{Narrow};
 ghost use Rattle.serial.specs.State.{most_records, held_by, chip_of, player_of, new_player};
 
-use chip::{Chip, Due, Registers};
+use chip::{Chip, Due};
 use serial::{Player, Taking};
-
-// The largest record count.
-const MOST_RECORDS: u64 = 18446744073709551615;
 
 // A player that has read nothing.
 pub fn new_player() -> Player
     ensures { result ≡ new_player }
 {
-    let blit = Registers {
-        control: 0,
-        command: 0,
-        source: 0,
-        destination: 0,
-        offset: 0,
-        width: 0,
-        height: 0,
-        background: 0,
-        foreground: 0,
-    };
+    let chip = chip_admit::new_chip();
     Player {
         values: [0; 6],
-        blit,
+        blit: chip.blit,
         due: 0,
         line: 0,
         word: 0,
@@ -46,7 +34,7 @@ pub fn new_player() -> Player
 pub fn held_by(p: Player) -> usize
     ensures { (result ≡ held_by p) × (result ≤ 7) }
 {
-    record_code::least(p.held as usize, 7)
+    (p.held as usize).min(7)
 }
 
 // The registers, and the data that is due.
@@ -68,10 +56,7 @@ pub fn chip_of(p: Player) -> Chip
 pub fn more_records(count: u64, more: u64) -> u64
     ensures { (result ≡ min (count + more) most_records) × (count ≤ most_records) }
 {
-    if more <= MOST_RECORDS - count {
-        return count + more;
-    }
-    MOST_RECORDS
+    count.saturating_add(more)
 }
 
 // The player in a state whose half-read record is the first bytes of `half`.
@@ -118,21 +103,24 @@ pub fn joined_byte(half: [u8; 7], held: usize, block: &[u8], i: usize) -> u8
     block[i - held]
 }
 
+// The first so many of these bytes, and zeros.
+fn joined<const N: usize>(half: [u8; 7], held: usize, block: &[u8], count: usize) -> [u8; N]
+    requires { (held ≤ 7) × (count ≤ N) × (count ≤ held + length block.now) }
+    ensures { result ≡ paste (replicate N 0) 0 (take held half ++ block.now) count }
+{
+    let mut next = [0; N];
+    for i in 0..count {
+        next[i] = joined_byte(half, held, block, i);
+    }
+    next
+}
+
 // The first eight of these bytes: the record that the block makes whole.
 pub fn joined_record(half: [u8; 7], held: usize, block: &[u8]) -> [u8; 8]
     requires { (held ≤ 7) × (8 ≤ held + length block.now) }
     ensures { result ≡ take 8 (take held half ++ block.now) }
 {
-    [
-        joined_byte(half, held, block, 0),
-        joined_byte(half, held, block, 1),
-        joined_byte(half, held, block, 2),
-        joined_byte(half, held, block, 3),
-        joined_byte(half, held, block, 4),
-        joined_byte(half, held, block, 5),
-        joined_byte(half, held, block, 6),
-        joined_byte(half, held, block, 7),
-    ]
+    joined(half, held, block, 8)
 }
 
 // The half-read record with the block behind it, and zeros.
@@ -140,12 +128,5 @@ pub fn joined_half(half: [u8; 7], held: usize, block: &[u8]) -> [u8; 7]
     requires { held + length block.now ≤ 7 }
     ensures { result ≡ over (take held half ++ block.now) (replicate 7 0) }
 {
-    let count = held + block.len();
-    let mut next: [u8; 7] = [0; 7];
-    let mut i = 0;
-    while i < count {
-        next[i] = joined_byte(half, held, block, i);
-        i += 1;
-    }
-    next
+    joined(half, held, block, held + block.len())
 }

@@ -5,4 +5,4 @@ use Rattle.serial_state.proofs.new_player.Goals as goal
 
 pub returns : goal.returns
 unfolding new_player player_of new_chip
-returns c = refl
+returns c = rw c.new_chip-chip.ensures refl
