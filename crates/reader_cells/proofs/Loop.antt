@@ -2,7 +2,7 @@
 use Prim.Native.Nat.{ℕ, suc, ◌+◌, ◌-◌, ◌*◌, ◌/◌, ◌%◌, ◌≤◌, ◌<◌}
 use mathlib.Core.Path.{◌≡◌, refl, sym, ap, subst, ◌∙◌}
 use mathlib.Core.List.{List}
-use mathlib.Core.Bool.{Bool, true, false, cond}
+use mathlib.Core.Bool.{Bool, true}
 use native.Mathlib.Nat.{div-add-mod', le-div_iff_mul-le, mul-le-mul_right, suc-mul}
 use native.Mathlib.Omega.{arith}
 use lib.Arith.{digits_div, digits_mod}
@@ -22,15 +22,6 @@ pub cell_in : (p i n : ℕ) → 0 < p → i < n / p → i * p + p ≤ n
 cell_in p i n some h =
     let more : suc i * p ≤ n = (le-div_iff_mul-le some).0 h in
     omega (arith, suc-mul i p)
-
--- its address is below 64 bits, and not below 0
-pub away_room : (t : Bool) (at way bytes m : ℕ) → way ≤ cond t at m → cond t (at - way) (at + way) + bytes ≤ m → m < 18446744073709551616 → way ≤ cond t at (18446744073709551615 - at)
-away_room true at way bytes m far room h = far
-away_room false at way bytes m far room h = omega arith
-
-pub way_fits : (t : Bool) (at way m : ℕ) → way ≤ cond t at m → at < 18446744073709551616 → m < 18446744073709551616 → way < 18446744073709551616
-way_fits true at way m h a b = omega arith
-way_fits false at way m h a b = omega arith
 
 -- all of them are the whole list
 pub cells_all : (p i n : ℕ) → n % p ≡ 0 → n / p ≤ i → n ≤ i * p

@@ -35,11 +35,10 @@ fn fill_cell(depth: u32, memory: &[u8], back: bool, at: usize, cell: &mut [u16])
     requires { (is_depth depth ≡ true) × (at + cell_bytes depth ≤ length memory.now) × (length cell.old ≡ cell_pixels depth) }
     ensures { cell.new ≡ tabulate (length cell.old) (cell_colour depth memory.now back at) }
 {
-    let mut t = 0;
-    while t < cell.len() {
-        let i = cell_place(back, cell.len(), t) as u32;
-        cell[t] = pixel_code::stored_pixel(depth, memory, at, 7 - depth * i);
-        t += 1;
+    let n = cell.len();
+    for (t, colour) in cell.iter_mut().enumerate() {
+        let i = cell_place(back, n, t) as u32;
+        *colour = pixel_code::stored_pixel(depth, memory, at, 7 - depth * i);
     }
 }
 
@@ -51,33 +50,31 @@ fn away(back: bool, at: usize, way: usize) -> usize
     if back { at - way } else { at + way }
 }
 
-// The colours of cells side by side, from the one at an address on, or back.
-fn fill_cells(depth: u32, memory: &[u8], back: bool, at: usize, line: &mut [u16])
-    requires { Celled depth (length memory.now) back at (length line.old) }
-    ensures { line.new ≡ tabulate (length line.old) (cells_colour depth memory.now back at) }
+// The colours of cells side by side, from the one at an address on, or back. By places and not by `chunks_exact_mut`, whose parts leave no
+// fact of what the line holds.
+fn fill_cells<const DEPTH: u32>(memory: &[u8], back: bool, at: usize, line: &mut [u16])
+    requires { Celled DEPTH (length memory.now) back at (length line.old) }
+    ensures { line.new ≡ tabulate (length line.old) (cells_colour DEPTH memory.now back at) }
 {
-    let pixels = cell_pixels(depth);
-    let bytes = cell_bytes(depth);
-    let count = line.len() / pixels;
-    let mut i = 0;
-    while i < count {
+    let pixels = cell_pixels(DEPTH);
+    let bytes = cell_bytes(DEPTH);
+    for i in 0..line.len() / pixels {
         let from = i * pixels;
         let a = away(back, at, i * bytes);
-        fill_cell(depth, memory, back, a, &mut line[from..from + pixels]);
-        i += 1;
+        fill_cell(DEPTH, memory, back, a, &mut line[from..from + pixels]);
     }
 }
 
-// The same, with the depth as a constant of the loops.
+// The same at any depth.
 pub fn fill_beside(depth: u32, memory: &[u8], back: bool, at: usize, line: &mut [u16])
     requires { Celled depth (length memory.now) back at (length line.old) }
     ensures { line.new ≡ tabulate (length line.old) (cells_colour depth memory.now back at) }
 {
     match depth {
-        1 => fill_cells(1, memory, back, at, line),
-        2 => fill_cells(2, memory, back, at, line),
-        4 => fill_cells(4, memory, back, at, line),
-        8 => fill_cells(8, memory, back, at, line),
-        _ => fill_cells(16, memory, back, at, line),
+        1 => fill_cells::<1>(memory, back, at, line),
+        2 => fill_cells::<2>(memory, back, at, line),
+        4 => fill_cells::<4>(memory, back, at, line),
+        8 => fill_cells::<8>(memory, back, at, line),
+        _ => fill_cells::<16>(memory, back, at, line),
     }
 }
