@@ -63,14 +63,11 @@ module _ (bytes : ℕ) (rows : List (List ℕ)) (x y width : ℕ) where
       ∙ ap₂ (λ (z : List ℕ) (s : ℕ). take (k * 2048) z ++ (line k (take s (drop (k * 2048) z)) ++ drop s (drop (k * 2048) z))) e es
       ∙ next k old
 
-  pub tiles_end : (k : ℕ) (old m : List ℕ) → m ≡ lines k old → k ≡ 8 → m ≡ lines 8 old
-  tiles_end k old m e h = e ∙ ap (λ (n : ℕ). lines n old) h
-
   length_line : (k : ℕ) (old : List ℕ) → length (line k old) ≡ length old
   unfolding straight_line
   length_line k old = length_pixels bytes (λ s d. s) (λ i. i * bytes) (λ m i. get_or (get_or rows ((y + k) % 8) []) ((x + i) % 8) 0) (max 16 width) old
 
-  pub length_lines : (n : ℕ) (old : List ℕ) → n * 2048 ≤ length old → length (lines n old) ≡ length old
+  length_lines : (n : ℕ) (old : List ℕ) → n * 2048 ≤ length old → length (lines n old) ≡ length old
   unfolding tiled_lines
   length_lines zero old room = refl
   length_lines (suc n) old room =

@@ -75,9 +75,6 @@ repeat_more bytes i line m v h e ev =
     ∙ again bytes n line
     ∙ ap (λ (k : ℕ). repeated bytes k line) more
 
-pub repeat_end : (bytes i width : ℕ) (line m : List ℕ) → m ≡ repeated bytes (i - 16) line → i - 16 ≡ width - 16 → m ≡ repeated bytes (width - 16) line
-repeat_end bytes i width line m e h = e ∙ ap (λ (k : ℕ). repeated bytes k line) h
-
 -- pixels that are the same every sixteen are repeated
 pub tiled : (bytes : ℕ) (f : ℕ → ℕ) (old : List ℕ) → ((i : ℕ) → f i ≡ f (16 + i)) → (n : ℕ) → (16 + n) * bytes ≤ length old
     → repeated bytes n (stored bytes f old 16) ≡ stored bytes f old (16 + n)

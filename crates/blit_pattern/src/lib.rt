@@ -12,11 +12,10 @@ fn read_row(memory: &[u8], bytes: usize, at: usize) -> [u16; 8]
     requires { (0 < bytes) × (bytes ≤ 2) × (at + 8 * bytes ≤ length memory.now) }
     ensures { result ≡ row_at bytes memory.now at }
 {
+    // Not by `array::from_fn`: its contract does not say that each call reads the same memory, and the proof stays open.
     let mut row = [0u16; 8];
-    let mut u = 0;
-    while u < 8 {
+    for u in 0..8 {
         row[u] = pixel_code::get_pixel(memory, bytes, at + u * bytes);
-        u += 1;
     }
     row
 }
@@ -27,62 +26,41 @@ pub fn read_pattern(memory: &[u8], bytes: usize, at: usize) -> [[u16; 8]; 8]
     ensures { result ≡ pattern_rows bytes memory.now at }
 {
     let mut rows = [[0u16; 8]; 8];
-    let mut v = 0;
-    while v < 8 {
+    for v in 0..8 {
         rows[v] = read_row(memory, bytes, at + v * (8 * bytes));
-        v += 1;
     }
     rows
 }
 
 // The first sixteen pixels of a line that repeats a row, from column x of it on.
-fn first_pixels(row: [u16; 8], bytes: usize, x: usize, line: &mut [u8])
-    requires { (0 < bytes) × (bytes ≤ 2) × (x < 8) × (16 * bytes ≤ length line.old) }
-    ensures { line.new ≡ straight_line bytes (λ s d. s) (λ i. get_or row ((x + i) % 8) 0) 16 line.old }
+fn first_pixels<const BYTES: usize>(row: [u16; 8], x: usize, line: &mut [u8])
+    requires { (0 < BYTES) × (BYTES ≤ 2) × (x < 8) × (16 * BYTES ≤ length line.old) }
+    ensures { line.new ≡ straight_line BYTES (λ s d. s) (λ i. get_or row ((x + i) % 8) 0) 16 line.old }
 {
-    let mut i = 0;
-    while i < 16 {
+    for i in 0..16 {
         let v = row[(x + i) % 8];
-        pixel_code::put_pixel(line, bytes, i * bytes, v);
-        i += 1;
-    }
-}
-
-// The same, with the bytes of a pixel as a constant of the loop.
-fn first_worker(row: [u16; 8], bytes: usize, x: usize, line: &mut [u8])
-    requires { (0 < bytes) × (bytes ≤ 2) × (x < 8) × (16 * bytes ≤ length line.old) }
-    ensures { line.new ≡ straight_line bytes (λ s d. s) (λ i. get_or row ((x + i) % 8) 0) 16 line.old }
-{
-    if bytes == 1 {
-        first_pixels(row, 1, x, line);
-    } else {
-        first_pixels(row, 2, x, line);
+        pixel_code::put_pixel(line, BYTES, i * BYTES, v);
     }
 }
 
 // The pixels of a line from the sixteenth on, each the one sixteen before it.
-fn repeat_pixels(line: &mut [u8], bytes: usize, width: usize)
-    requires { (0 < bytes) × (bytes ≤ 2) × (width * bytes ≤ length line.old) }
-    ensures { line.new ≡ pixels bytes (λ s d. s) (λ i. (16 + i) * bytes) (λ m i. get_pixel bytes m (i * bytes)) (width - 16) line.old }
+fn repeat_pixels<const BYTES: usize>(line: &mut [u8], width: usize)
+    requires { (0 < BYTES) × (BYTES ≤ 2) × (width * BYTES ≤ length line.old) }
+    ensures { line.new ≡ pixels BYTES (λ s d. s) (λ i. (16 + i) * BYTES) (λ m i. get_pixel BYTES m (i * BYTES)) (width - 16) line.old }
 {
-    let mut i = 16;
-    while i < width {
-        let v = pixel_code::get_pixel(line, bytes, (i - 16) * bytes);
-        pixel_code::put_pixel(line, bytes, i * bytes, v);
-        i += 1;
+    for i in 16..width {
+        let v = pixel_code::get_pixel(line, BYTES, (i - 16) * BYTES);
+        pixel_code::put_pixel(line, BYTES, i * BYTES, v);
     }
 }
 
-// The same, with the bytes of a pixel as a constant of the loop.
-fn repeat_worker(line: &mut [u8], bytes: usize, width: usize)
-    requires { (0 < bytes) × (bytes ≤ 2) × (width * bytes ≤ length line.old) }
-    ensures { line.new ≡ pixels bytes (λ s d. s) (λ i. (16 + i) * bytes) (λ m i. get_pixel bytes m (i * bytes)) (width - 16) line.old }
+// A line that repeats a row, the bytes of a pixel being a constant of its loops.
+fn tile_pixels<const BYTES: usize>(row: [u16; 8], x: usize, width: usize, line: &mut [u8])
+    requires { (0 < BYTES) × (BYTES ≤ 2) × (x < 8) × (width ≤ 1024) × (2048 ≤ length line.old) }
+    ensures { line.new ≡ straight_line BYTES (λ s d. s) (λ i. get_or row ((x + i) % 8) 0) (max 16 width) line.old }
 {
-    if bytes == 1 {
-        repeat_pixels(line, 1, width);
-    } else {
-        repeat_pixels(line, 2, width);
-    }
+    first_pixels::<BYTES>(row, x, line);
+    repeat_pixels::<BYTES>(line, width);
 }
 
 // A line that repeats a row, from column x of it on: so many pixels, and at least sixteen.
@@ -90,8 +68,11 @@ pub fn tile_line(row: [u16; 8], bytes: usize, x: usize, width: usize, line: &mut
     requires { (0 < bytes) × (bytes ≤ 2) × (x < 8) × (width ≤ 1024) × (2048 ≤ length line.old) }
     ensures { line.new ≡ straight_line bytes (λ s d. s) (λ i. get_or row ((x + i) % 8) 0) (max 16 width) line.old }
 {
-    first_worker(row, bytes, x, line);
-    repeat_worker(line, bytes, width);
+    if bytes == 1 {
+        tile_pixels::<1>(row, x, width, line);
+    } else {
+        tile_pixels::<2>(row, x, width, line);
+    }
 }
 
 // Eight lines side by side, each of 2048 bytes: one for each row, row y first, from column x on.
@@ -106,12 +87,9 @@ pub fn tile_lines(
     requires { (0 < bytes) × (bytes ≤ 2) × (x < 8) × (y < 8) × (width ≤ 1024) × (16384 ≤ length lines.old) }
     ensures { lines.new ≡ tiled_lines bytes rows x y width 8 lines.old }
 {
-    let mut k = 0;
-    while k < 8 {
+    for k in 0..8 {
         let row = rows[(y + k) % 8];
         let at = k * 2048;
-        let e = at + 2048;
-        tile_line(row, bytes, x, width, &mut lines[at..e]);
-        k += 1;
+        tile_line(row, bytes, x, width, &mut lines[at..at + 2048]);
     }
 }
