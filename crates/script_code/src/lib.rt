@@ -10,14 +10,12 @@ use script::Scan;
 pub fn line_end(text: &[u8], at: usize) -> usize
     ensures { result ≡ line_end text.now at }
 {
-    let mut i = at;
-    while i < text.len() {
+    for i in at..text.len() {
         if text[i] == b'\n' {
             return i;
         }
-        i += 1;
     }
-    i
+    at.max(text.len())
 }
 
 // Whether n bytes have four from `at` on.
@@ -55,32 +53,24 @@ fn scan_byte(k: usize, s: Scan, b: u8) -> Scan
     requires { s.blanks + 1 < 2 ^ 64 }
     ensures { result ≡ scan_byte k s b }
 {
-    let value = s.value;
-    let hex = s.hex;
-    let blanks = s.blanks;
     if b == b' ' {
         return Scan {
-            value,
-            hex,
-            blanks: blanks + 1,
+            blanks: s.blanks + 1,
+            ..s
         };
     }
-    if blanks != k {
+    if s.blanks != k {
         return s;
     }
     if b == b'h' {
-        return Scan {
-            value: hex,
-            hex,
-            blanks,
-        };
+        return Scan { value: s.hex, ..s };
     }
     let x = b as u64;
     let d = x % 16 + x / 64 * 9;
     Scan {
-        value: ((value as u64 * 10 + d) % 4294967296) as u32,
-        hex: ((hex as u64 * 16 + d) % 4294967296) as u32,
-        blanks,
+        value: ((s.value as u64 * 10 + d) % 4294967296) as u32,
+        hex: ((s.hex as u64 * 16 + d) % 4294967296) as u32,
+        ..s
     }
 }
 
@@ -93,10 +83,8 @@ pub fn number(line: &[u8], k: usize) -> u32
         hex: 0,
         blanks: 0,
     };
-    let mut i = 8;
-    while i < line.len() {
+    for i in 8..line.len() {
         s = scan_byte(k, s, line[i]);
-        i += 1;
     }
     s.value
 }
@@ -105,10 +93,8 @@ pub fn number(line: &[u8], k: usize) -> u32
 pub fn put_fields(line: &[u8], places: &[usize], bytes: &mut [u8])
     ensures { bytes.new ≡ fields_put line.now 0 places.now bytes.old }
 {
-    let mut i = 0;
-    while i < places.len() {
-        put_number(bytes, places[i], number(line, i));
-        i += 1;
+    for (i, place) in places.iter().enumerate() {
+        put_number(bytes, *place, number(line, i));
     }
 }
 
@@ -123,14 +109,10 @@ pub fn store(line: &[u8], bytes: &mut [u8])
 pub fn put_words(line: &[u8], words: &mut [u16])
     ensures { words.new ≡ words_put line.now words.old }
 {
-    let mut i = number(line, 0) as usize;
-    let last = number(line, 1) as usize;
+    let first = number(line, 0) as usize;
+    let end = words.len().min(number(line, 1) as usize + 1);
     let word = (number(line, 2) % 65536) as u16;
-    while i < words.len() {
-        if last < i {
-            return;
-        }
-        words[i] = word;
-        i += 1;
+    if first < end {
+        words[first..end].fill(word);
     }
 }

@@ -1,4 +1,3 @@
-use Prim.Native.Nat.{◌-◌}
 use mathlib.Core.Path.{◌≡◌}
 use lib.ListN.{length, drop}
 use Rattle.script.specs.Script.{fields_put}
@@ -6,6 +5,3 @@ use Rattle.script_code.proofs.put_fields.Given as goal
 
 abbrev pub invariant-loop-i : goal.invariant-loop-i
 invariant-loop-i l = (length l.bytes ≡ length l.initial.bytes) × (fields_put l.line 0 l.places l.initial.bytes ≡ fields_put l.line l.i (drop l.i l.places) l.bytes)
-
-abbrev pub decreases-loop-i : goal.decreases-loop-i
-decreases-loop-i l = length l.places - l.i

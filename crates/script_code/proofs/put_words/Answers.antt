@@ -1,17 +1,14 @@
-use mathlib.Core.Path.{refl, sym, ◌∙◌}
-use native.Mathlib.Omega.{arith}
-use lib.ListN.{length-set}
-use Rattle.script.proofs.Laws.{words_start, words_next, words_end, words_past}
+use mathlib.Core.Path.{sym, ◌∙◌}
+use Rattle.script.proofs.Laws.{words_start}
+use Rattle.script_code.proofs.Words.{words_filled, no_words_filled}
 use Rattle.script_code.proofs.put_words.Goals as goal
 
-pub loop-i-init : goal.loop-i-init
-loop-i-init c = (refl, words_start _ _ _ _ _ c.number-i.ensures c.number-last.ensures c.number.ensures)
+pub returns-then-first-end : goal.returns-then-first-end
+returns-then-first-end c = let w = c.args.words.now in
+    words_filled w c.number-first.result c.number.result c.min-end.result _ c.min-end.ensures _ c.if-first-end.true (c.fill.ensures.after (λ y e. e))
+    ∙ sym (words_start _ w _ _ _ c.number-first.ensures c.number.ensures c.number-2.ensures)
 
-pub returns-then-last-i : goal.returns-then-last-i
-returns-then-last-i c = sym (c.loop-i.invariant.1 ∙ words_end _ _ _ _ c.if-last-i.true)
-
-pub loop-i-preserved : goal.loop-i-preserved
-loop-i-preserved c = (simp length-set (omega arith), c.loop-i.invariant.1 ∙ words_next _ _ _ _ c.if-last-i.false)
-
-pub returns : goal.returns
-returns c = sym (c.loop-i.invariant.1 ∙ words_past _ _ _ _ c.loop-i-test.false)
+pub returns-else-first-end : goal.returns-else-first-end
+returns-else-first-end c = let w = c.args.words.now in
+    no_words_filled w c.number-first.result c.number.result c.min-end.result _ c.min-end.ensures c.if-first-end.false
+    ∙ sym (words_start _ w _ _ _ c.number-first.ensures c.number.ensures c.number-2.ensures)

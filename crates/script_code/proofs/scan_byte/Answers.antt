@@ -8,14 +8,14 @@ pub returns-then-b-eq32 : goal.returns-then-b-eq32
 unfolding scan_byte
 returns-then-b-eq32 c = yes _ (eq-eqb _ _ c.if-b-eq32.true) refl
 
-pub returns-then-blanks-k : goal.returns-then-blanks-k
+pub returns-then-s-k : goal.returns-then-s-k
 unfolding scan_byte
-returns-then-blanks-k c = simp (ne_eqb _ _ c.if-b-eq32.false, ne_eqb _ _ c.if-blanks-k.true)
+returns-then-s-k c = simp (ne_eqb _ _ c.if-b-eq32.false, ne_eqb _ _ c.if-s-k.true)
 
 pub returns-then-b-eq104 : goal.returns-then-b-eq104
 unfolding scan_byte
-returns-then-b-eq104 c = simp (ne_eqb _ _ c.if-b-eq32.false, eq-eqb _ _ c.if-blanks-k.false, eq-eqb _ _ c.if-b-eq104.true)
+returns-then-b-eq104 c = simp (ne_eqb _ _ c.if-b-eq32.false, eq-eqb _ _ c.if-s-k.false, eq-eqb _ _ c.if-b-eq104.true)
 
 pub returns : goal.returns
 unfolding scan_byte
-returns c = simp (ne_eqb _ _ c.if-b-eq32.false, eq-eqb _ _ c.if-blanks-k.false, ne_eqb _ _ c.if-b-eq104.false)
+returns c = simp (ne_eqb _ _ c.if-b-eq32.false, eq-eqb _ _ c.if-s-k.false, ne_eqb _ _ c.if-b-eq104.false)
