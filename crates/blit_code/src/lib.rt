@@ -13,6 +13,7 @@ ghost use Rattle.blit_code.specs.Lines.{lag_of, lines_pixel, low_end, AboveZero}
 use blit::{From, Job, Mix};
 
 // From which pixel on a move's source is a pixel that its own line has stored; s and d are the low ends of the two lines.
+#[tactic(auto, using(crate::proofs::Lines::lag_down_own, crate::proofs::Lines::lag_down_none, crate::proofs::Lines::lag_up_own, crate::proofs::Lines::lag_up_none))]
 fn lag_of(down: bool, bytes: usize, width: usize, s: usize, d: usize) -> usize
     requires { 0 < bytes }
     ensures { result ≡ lag_of down bytes width s d }
@@ -117,14 +118,13 @@ fn pattern_line(job: Job, j: usize, lines: &[u8], memory: &mut [u8])
 }
 
 // All lines of a blit of one colour.
+// Four functions have this loop: one that took the step as a closure would need, for what the step stores, a contract longer than the loop.
 fn colour_lines(job: Job, colour: u16, memory: &mut [u8])
     requires { JobOk (length memory.old) job × (job.from ≡ Colour colour) }
     ensures { memory.new ≡ chip_blit (blit_of job (given (λ i k. colour))) (towards job.down) memory.old }
 {
-    let mut j = 0;
-    while j < job.height {
+    for j in 0..job.height {
         colour_line(job, j, colour, memory);
-        j += 1;
     }
 }
 
@@ -134,10 +134,8 @@ fn move_lines(job: Job, from: u32, memory: &mut [u8])
     ensures { memory.new ≡ chip_blit (blit_of job (in_memory from)) (towards job.down) memory.old }
 {
     let mut source = [0u8; 2048];
-    let mut j = 0;
-    while j < job.height {
+    for j in 0..job.height {
         move_line(job, j, from, &mut source, memory);
-        j += 1;
     }
 }
 
@@ -147,10 +145,8 @@ fn few_lines(job: Job, rows: [[u16; 8]; 8], x: usize, y: usize, memory: &mut [u8
     ensures { memory.new ≡ chip_blit (blit_of job (given (λ i k. rows_pixel job.bytes rows (x + i) (y + k)))) (towards job.down) memory.old }
 {
     let mut source = [0u8; 2048];
-    let mut j = 0;
-    while j < job.height {
+    for j in 0..job.height {
         row_line(job, j, rows, x, y, &mut source, memory);
-        j += 1;
     }
 }
 
@@ -161,10 +157,8 @@ fn pattern_lines(job: Job, rows: [[u16; 8]; 8], x: usize, y: usize, memory: &mut
 {
     let mut lines = [0u8; 16384];
     blit_pattern::tile_lines(rows, job.bytes, x, y, job.width, &mut lines);
-    let mut j = 0;
-    while j < job.height {
+    for j in 0..job.height {
         pattern_line(job, j, &lines, memory);
-        j += 1;
     }
 }
 

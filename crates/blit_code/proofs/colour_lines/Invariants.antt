@@ -1,12 +1,7 @@
 use mathlib.Core.Path.{◌≡◌}
-use Prim.Native.Nat.{◌-◌, ◌≤◌}
-use lib.ListN.{length}
 use Rattle.blit.specs.Blit.{chip_lines, towards, given}
 use Rattle.blit.specs.Job.{blit_of}
 use Rattle.blit_code.proofs.colour_lines.Given as goal
 
 abbrev pub invariant-loop-j : goal.invariant-loop-j
-invariant-loop-j l = (l.j ≤ l.job.height) × (length l.memory ≡ length l.initial.memory) × (l.memory ≡ chip_lines (blit_of l.job (given (λ i k. l.colour))) (towards l.job.down) l.j l.initial.memory)
-
-abbrev pub decreases-loop-j : goal.decreases-loop-j
-decreases-loop-j l = l.job.height - l.j
+invariant-loop-j l = l.memory ≡ chip_lines (blit_of l.job (given (λ i k. l.colour))) (towards l.job.down) l.j l.initial.memory

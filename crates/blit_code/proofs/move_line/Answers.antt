@@ -6,6 +6,14 @@ use Rattle.blit_code.proofs.Lines.{from_room, from_zero, lent_line, line_bytes_l
 use Rattle.blit_code.proofs.Lift.{part_length}
 use Rattle.blit_code.proofs.move_line.Goals as goal
 
+pub overflow_add-e : goal.overflow_add-e
+overflow_add-e c = let p = c.requires in
+    omega (arith, p.0.memory, to_room _ _ p.0 _ _ p.1 c.low_end-d.ensures)
+
+pub slice_bounds-line_worker-end : goal.slice_bounds-line_worker-end
+slice_bounds-line_worker-end c = let p = c.requires in
+    to_room _ _ p.0 _ _ p.1 c.low_end-d.ensures
+
 pub low_end-s-requires : goal.low_end-s-requires
 low_end-s-requires c = let p = c.requires in
     (p.0.few_bytes, p.0.line, p.0.width, omega (arith, p.0.height), from_zero _ _ p.0 _ p.2 _ p.1)
@@ -14,20 +22,9 @@ pub low_end-d-requires : goal.low_end-d-requires
 low_end-d-requires c = let p = c.requires in
     (p.0.few_bytes, p.0.line, p.0.width, omega (arith, p.0.height), to_zero _ _ p.0 _ p.1)
 
-pub overflow_mul-size : goal.overflow_mul-size
-overflow_mul-size c = omega (arith, line_bytes_lem _ _ c.requires.0)
-
 pub copy_bytes-requires : goal.copy_bytes-requires
 copy_bytes-requires c = let p = c.requires in
     (omega (arith, line_bytes_lem _ _ p.0), from_room _ _ p.0 _ p.2 _ _ p.1 c.low_end-s.ensures)
-
-pub overflow_add-e : goal.overflow_add-e
-overflow_add-e c = let p = c.requires in
-    omega (arith, p.0.memory, to_room _ _ p.0 _ _ p.1 c.low_end-d.ensures)
-
-pub slice_bounds-line_worker-end : goal.slice_bounds-line_worker-end
-slice_bounds-line_worker-end c = let p = c.requires in
-    to_room _ _ p.0 _ _ p.1 c.low_end-d.ensures
 
 pub line_worker-requires : goal.line_worker-requires
 line_worker-requires c = let p = c.requires in

@@ -1,5 +1,4 @@
 use mathlib.Core.Path.{◌≡◌}
-use Prim.Native.Nat.{◌-◌, ◌≤◌}
 use lib.ListN.{length}
 use Rattle.blit.specs.Blit.{chip_lines, towards, memory as in_memory}
 use Rattle.blit.specs.Job.{blit_of}
@@ -7,8 +6,5 @@ use Rattle.blit_code.proofs.move_lines.Given as goal
 
 abbrev pub invariant-loop-j : goal.invariant-loop-j
 invariant-loop-j l =
-    (l.j ≤ l.job.height) × (length l.memory ≡ length l.initial.memory) × (l.memory ≡ chip_lines (blit_of l.job (in_memory l.from)) (towards l.job.down) l.j l.initial.memory)
+    (l.memory ≡ chip_lines (blit_of l.job (in_memory l.from)) (towards l.job.down) l.j l.initial.memory)
     × (length l.source ≡ 2048)
-
-abbrev pub decreases-loop-j : goal.decreases-loop-j
-decreases-loop-j l = l.job.height - l.j

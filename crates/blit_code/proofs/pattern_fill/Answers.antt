@@ -1,20 +1,10 @@
 use borrow.Author.Rules.{rules}
-use native.Mathlib.Nat.{mod-lt}
-use lib.Dec.{lit<}
 use Rattle.blit_code.proofs.Lines.{of_pattern, rows_fill}
 use Rattle.blit_code.proofs.pattern_fill.Goals as goal
 
 pub read_pattern-rows-requires : goal.read_pattern-rows-requires
 read_pattern-rows-requires c = let p = c.requires in
     (p.0.some_bytes, p.0.few_bytes, (of_pattern _ _ p.0 _ _ _ p.1).1)
-
-pub few_lines-requires : goal.few_lines-requires
-few_lines-requires c = let p = c.requires in
-    (p.0, (of_pattern _ _ p.0 _ _ _ p.1).0, mod-lt _ (lit< tt), mod-lt _ (lit< tt))
-
-pub pattern_lines-requires : goal.pattern_lines-requires
-pattern_lines-requires c = let p = c.requires in
-    (p.0, (of_pattern _ _ p.0 _ _ _ p.1).0, mod-lt _ (lit< tt), mod-lt _ (lit< tt))
 
 pub returns-then-job-le8 : goal.returns-then-job-le8
 returns-then-job-le8 c = let a = c.args in

@@ -1,6 +1,4 @@
 use mathlib.Core.Path.{◌≡◌}
-use Prim.Native.Nat.{◌-◌, ◌≤◌}
-use lib.ListN.{length}
 use Rattle.blit.specs.Blit.{given, chip_lines, towards}
 use Rattle.blit.specs.Job.{blit_of}
 use Rattle.blit_code.specs.Lines.{lines_pixel}
@@ -8,8 +6,4 @@ use Rattle.blit_code.proofs.pattern_lines.Given as goal
 
 abbrev pub invariant-loop-j : goal.invariant-loop-j
 invariant-loop-j l =
-    (l.j ≤ l.job.height) × (length l.memory ≡ length l.initial.memory)
-    × (l.memory ≡ chip_lines (blit_of l.job (given (λ i k. lines_pixel l.job.bytes l.lines i k))) (towards l.job.down) l.j l.initial.memory)
-
-abbrev pub decreases-loop-j : goal.decreases-loop-j
-decreases-loop-j l = l.job.height - l.j
+    l.memory ≡ chip_lines (blit_of l.job (given (λ i k. lines_pixel l.job.bytes l.lines i k))) (towards l.job.down) l.j l.initial.memory
