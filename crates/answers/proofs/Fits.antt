@@ -15,14 +15,15 @@ use Rattle.screen.specs.declared.ScreenValues.{ScreenValues}
 use Rattle.screen.specs.Narrow.{Narrow}
 use Rattle.screen.proofs.Fits.{EdgesFit, InFields, edges_say, values_fit_lem}
 use Rattle.chip.specs.Register.{fits}
-use Rattle.chip.specs.Play.{no_values, new_chip, run, Playing, ending, playing, playing_of}
+use Rattle.chip.specs.Play.{no_values, new_chip, run, Playing, Running, ending, playing, playing_of}
 use Rattle.chip.specs.declared.Chip.{Chip}
-use Rattle.chip.specs.declared.Played.{Played}
-use Rattle.chip.specs.declared.Run.{Run}
+use Rattle.std.specs.Prelude.{Result}
+use Rattle.refusal.specs.declared.Refusal.{Refusal}
+use Rattle.refusal.specs.declared.Refused.{Refused}
 use Rattle.chip.proofs.Screens.{Each, each_run}
 use Rattle.reader.specs.Read.{Reading, reading, reading_of}
 use Rattle.reader.specs.declared.Display.{Display}
-use Rattle.reader.specs.declared.PointAnswer.{PointAnswer}
+use Rattle.reader.specs.declared.Point.{Point}
 use Rattle.reader.proofs.Answer.{address_within}
 use Rattle.command.specs.Task.{Task, screen_in}
 use Rattle.compiler.specs.Compile.{compiling}
@@ -85,7 +86,7 @@ new_fits = nothing_fits
 abbrev Fine : Playing → Type 0
 Fine p = InFields p.values
 
-ending_fits : (r : Run) (n : ℕ) → InFields r.chip.screen → Fine (ending r n)
+ending_fits : (r : Running) (n : ℕ) → InFields r.chip.screen → Fine (ending r n)
 unfolding ending
 ending_fits r n f =
     both_ways Fine (not (eqb r.number 0)) _ _ (λ t. nothing_fits)
@@ -98,11 +99,11 @@ playing_fits m stream memory =
     (λ t. both_ways Fine (not (eqb (length stream % 8) 0)) _ _ (λ u. nothing_fits)
     (λ u. ending_fits (run m new_chip 0 (records_of stream)) (length stream / 8) (run_fits m new_chip 0 (records_of stream) new_fits)))
 
-pub play_narrow : (a : Played) (m : ℕ) (stream memory : List ℕ) → playing_of a ≡ playing m stream memory → Narrow (playing_of a).values
+pub play_narrow : (a : Result ScreenValues Refused) (m : ℕ) (stream memory : List ℕ) → playing_of a ≡ playing m stream memory → Narrow (playing_of a).values
 play_narrow a m stream memory e = narrow (playing_of a).values (subst Fine (sym e) (playing_fits m stream memory))
 
 -- ---- a point
-pub read_narrow : (a : PointAnswer) (m : ℕ) (d : Display) (v : ScreenValues) (p q : ℕ) (memory : List ℕ) → m < 2 ^ 32
+pub read_narrow : (a : Result Point Refusal) (m : ℕ) (d : Display) (v : ScreenValues) (p q : ℕ) (memory : List ℕ) → m < 2 ^ 32
     → reading_of a ≡ reading m d v p q memory → (reading_of a).address < 2 ^ 32
 read_narrow a m d v p q memory small e =
     omega (arith, ap (λ (r : Reading). r.address) e, address_within m d v p q memory)
@@ -121,5 +122,5 @@ drawing_fits m small t room memory =
     values_fit_lem m (screen_in t) small a.fields a.flag)
     (λ u. nothing_fits))
 
-pub draw_narrow : (a : Drawn) (t : Task) (room : ℕ) (memory : List ℕ) → drawing_of a ≡ drawing memory_size t room memory → Narrow (drawing_of a).values
+pub draw_narrow : (a : Result Drawn Refused) (t : Task) (room : ℕ) (memory : List ℕ) → drawing_of a ≡ drawing memory_size t room memory → Narrow (drawing_of a).values
 draw_narrow a t room memory e = narrow (drawing_of a).values (subst FineDrawn (sym e) (drawing_fits memory_size (omega arith) t room memory))

@@ -1,15 +1,19 @@
 -- Laws of what playing gives back: one for each way out.
 use Prim.Native.Nat.{ℕ, ◌/◌, ◌%◌}
-use mathlib.Core.Path.{◌≡◌, sym, ap}
+use mathlib.Core.Path.{◌≡◌, refl, sym, ap}
 use mathlib.Core.Bool.{true, false}
 use mathlib.Core.List.{List}
 use lib.ListN.{length}
+use native.Mathlib.Omega.{arith}
 use borrow.Author.Tests.{eq-eqb, ne_eqb}
 use Rattle.record.specs.Record.{records_of}
 use Rattle.screen.specs.declared.ScreenValues.{ScreenValues}
 use Rattle.chip.specs.Play.{new_chip, run, applied, Playing, refused_by, ending, playing, played, playing_of, answer_of}
-use Rattle.chip.specs.declared.Run.{Run}
-use Rattle.chip.specs.declared.Played.TheVariants.{Accepted, Refused}
+use Rattle.chip.specs.Play.{Running}
+use Rattle.std.specs.Prelude.{Ok, Err}
+use Rattle.refusal.specs.Number as refusals
+use Rattle.refusal.specs.declared.Refused.{Refused}
+use Rattle.refusal.proofs.Numbers.{refused_with_at, accepted_at, number_positive}
 
 abbrev pub accepted_by_lem : ScreenValues → Playing
 accepted_by_lem v = record { number = 0; place = 0; values = v }
@@ -23,31 +27,33 @@ module _ (m : ℕ) (stream memory : List ℕ) where
   unfolding playing
   broken h g = rw (eq-eqb (length memory) m h, ne_eqb (length stream % 8) 0 g)
 
-  pub whole : length memory ≡ m → length stream % 8 ≡ 0 → (r : Run) → r ≡ run m new_chip 0 (records_of stream) → playing m stream memory ≡ ending r (length stream / 8)
+  pub whole : length memory ≡ m → length stream % 8 ≡ 0 → (r : Running) → r ≡ run m new_chip 0 (records_of stream) → playing m stream memory ≡ ending r (length stream / 8)
   unfolding playing
-  whole h g r e = rw (eq-eqb (length memory) m h, eq-eqb (length stream % 8) 0 g) (ap (λ (x : Run). ending x (length stream / 8)) (sym e))
+  whole h g r e = rw (eq-eqb (length memory) m h, eq-eqb (length stream % 8) 0 g) (ap (λ (x : Running). ending x (length stream / 8)) (sym e))
 
   -- what a refusal shows
-  pub refuses : (n i : ℕ) → (n ≡ 0 → ⊥) → playing m stream memory ≡ refused_by n i
-      → (playing_of (Refused n i) ≡ playing m stream memory) × ((Refused n i ≡ answer_of (playing m stream memory)) × (memory ≡ played m stream memory))
+  pub refuses : (r : Refused) → playing m stream memory ≡ refused_by (refusals.number r.refusal) r.place
+      → (playing_of (Err r) ≡ playing m stream memory) × ((Err r ≡ answer_of (playing m stream memory)) × (memory ≡ played m stream memory))
   unfolding playing_of answer_of played
-  refuses n i h e = (sym e, (rw (e, ne_eqb n 0 h), rw (e, ne_eqb n 0 h)))
+  refuses r e =
+      let h : refusals.number r.refusal ≡ 0 → ⊥ = let p = number_positive r.refusal in λ z. omega (arith, p) in
+      (sym e, (rw e (sym (refused_with_at _ r _ r.place refl refl)), rw (e, ne_eqb (refusals.number r.refusal) 0 h)))
 
   -- what acceptance shows
   pub accepts : (v : ScreenValues) (new : List ℕ) → new ≡ applied new_chip (records_of stream) memory → playing m stream memory ≡ accepted_by_lem v
-      → (playing_of (Accepted v) ≡ playing m stream memory) × ((Accepted v ≡ answer_of (playing m stream memory)) × (new ≡ played m stream memory))
+      → (playing_of (Ok v) ≡ playing m stream memory) × ((Ok v ≡ answer_of (playing m stream memory)) × (new ≡ played m stream memory))
   unfolding playing_of answer_of played
-  accepts v new q e = (sym e, (rw e, rw e q))
+  accepts v new q e = (sym e, (rw e (sym (accepted_at v 0 0 refl)), rw e q))
 
-pub end_refused : (r : Run) (n : ℕ) → (r.number ≡ 0 → ⊥) → ending r n ≡ refused_by r.number r.place
+pub end_refused : (r : Running) (n : ℕ) → (r.number ≡ 0 → ⊥) → ending r n ≡ refused_by r.number r.place
 unfolding ending
 end_refused r n h = rw (ne_eqb r.number 0 h)
 
-pub end_due : (r : Run) (n : ℕ) → r.number ≡ 0 → r.chip.due.any ≡ true → ending r n ≡ refused_by 23 n
+pub end_due : (r : Running) (n : ℕ) → r.number ≡ 0 → r.chip.due.any ≡ true → ending r n ≡ refused_by 23 n
 unfolding ending
 end_due r n h d = rw (eq-eqb r.number 0 h, d)
 
-pub end_accepted : (r : Run) (n : ℕ) → r.number ≡ 0 → r.chip.due.any ≡ false → ending r n ≡ accepted_by_lem r.chip.screen
+pub end_accepted : (r : Running) (n : ℕ) → r.number ≡ 0 → r.chip.due.any ≡ false → ending r n ≡ accepted_by_lem r.chip.screen
 unfolding ending
 end_accepted r n h d = rw (eq-eqb r.number 0 h, d)
 

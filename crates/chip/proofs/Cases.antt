@@ -17,10 +17,13 @@ use Rattle.blit.specs.Words.{word_pixel, chip_word}
 use Rattle.chip.specs.Register.{listed, fits, screen_after, blit_after}
 use Rattle.chip.specs.Start.{operation, raster_code, bytes_of, source_of, destination_of, line_of, width_of, height_of, foreground_of, key_of, pattern_base, pattern_line, pattern_column, source_fits, startable, span, within, mix_by, from_by, job_of, write_of, started}
 use Rattle.chip.specs.Admit.{admit_rows, refusal, due_after, due_of, chip_after, effect}
-use Rattle.chip.specs.Play.{new_chip, run, applied, ending, playing, played, playing_of, answer_of}
+use Rattle.chip.specs.Play.{new_chip, run, applied, ending, playing, played, playing_of, answer_of, running_of}
 use Rattle.chip.specs.declared.Registers.{Registers}
 use Rattle.chip.specs.declared.Chip.{Chip}
-use Rattle.chip.specs.declared.Played.TheVariants.{Refused}
+use Rattle.std.specs.Prelude.{None, Some, Err}
+use Rattle.refusal.specs.Number as refusals
+use Rattle.refusal.specs.declared.Refused.{Refused}
+use Rattle.refusal.specs.declared.Refusal.TheVariants.{DataWord}
 use Rattle.chip.proofs.Runs.{reached}
 use Rattle.chip.proofs.Answers.{accepted_by_lem}
 
@@ -329,13 +332,17 @@ pub in_order : told (stream_bytes waiting ++ (0 ∷ [])) (0 ∷ line8)
 unfolding first_of record_bytes stream_bytes record_at records_from records_of listed fits screen_after blit_after source_fits startable span within admit_rows refusal due_after due_of chip_after new_chip run ending playing
 in_order = refl
 
+-- 23 at record 2
+abbrev waited : Refused
+waited = record { refusal = DataWord; place = 2 }
+
 -- all other numbers of a refusal are 0, also where screen registers were written before it; and the answers with such numbers
 pub refused_whole : (playing 8 (stream_bytes waiting) line8
     ≡ record { number = 23; place = 2; values = record { main = record { start = 0; offset = 0 }; window = record { start = 0; offset = 0 }; x = 0; y = 0 } })
-    × (answer_of (playing 8 (stream_bytes waiting) line8) ≡ Refused 23 2)
-    × (playing_of (Refused 23 2) ≡ playing 8 (stream_bytes waiting) line8)
+    × (answer_of (playing 8 (stream_bytes waiting) line8) ≡ Err waited)
+    × (playing_of (Err waited) ≡ playing 8 (stream_bytes waiting) line8)
     × (played 8 (stream_bytes waiting) line8 ≡ line8)
-unfolding first_of record_bytes stream_bytes record_at records_from records_of listed fits screen_after blit_after source_fits startable span within admit_rows refusal due_after due_of chip_after new_chip run ending playing played playing_of answer_of
+unfolding first_of record_bytes stream_bytes record_at records_from records_of listed fits screen_after blit_after source_fits startable span within admit_rows refusal due_after due_of chip_after new_chip run ending playing played playing_of answer_of refusals.answered_at refusals.number refusals.refusal
 refused_whole = (refl, refl, refl, refl)
 
 -- ---- a write, played: two lines of three pixels from address 1, four bytes apart, under exclusive or. Each line takes two words, the low
@@ -386,3 +393,9 @@ pub cells : (map (λ v. mix_by (with_command v)) operations ≡ Raster 6 ∷ Ras
     × (started (with_command 0x60001) line8 ≡ line8)
 unfolding mix_by from_by span within source_fits started
 cells = (refl, refl, refl, refl, refl, refl, refl)
+
+-- the numbers of a run, of which the record 2 is refused, and of one without a refusal
+pub run_numbers : (running_of (record { chip = new_chip; refused = Some waited }) ≡ record { number = 23; place = 2; chip = new_chip })
+    × (running_of (record { chip = new_chip; refused = None }) ≡ record { number = 0; place = 0; chip = new_chip })
+unfolding running_of refusals.number_at refusals.place_at refusals.number
+run_numbers = (refl, refl)

@@ -9,7 +9,7 @@ use Rattle.record.specs.declared.Record.{Record}
 use Rattle.chip.specs.Admit.{refusal, chip_after, effect}
 use Rattle.chip.specs.Play.{new_chip, run, applied, ending, playing, played}
 use Rattle.chip.specs.declared.Chip.{Chip}
-use Rattle.chip.specs.declared.Run.{Run}
+use Rattle.chip.specs.Play.{Running}
 use Rattle.chip.proofs.Runs.{reached, run_end, run_taken, run_append, applied_end, applied_step, applied_append}
 use Rattle.chip.proofs.Answers.{accepted_by_lem, whole, end_accepted, accepts}
 
@@ -33,9 +33,9 @@ pub plays_append : {m : ℕ} {c c' c'' : Chip} {xs ys : List Record} {old mid ne
     → Plays m c (xs ++ ys) old c'' new
 plays_append {m} {c} {c'} {c''} {xs} {ys} {old} {mid} {new} p q =
     record {
-      runs = λ i. run_append m c i xs ys (ap (λ (x : Run). x.number) (p.runs i))
-          ∙ ap (λ (x : Run). run m x.chip (i + length xs) ys) (p.runs i) ∙ q.runs (i + length xs);
-      draws = applied_append m c 0 xs ys old (ap (λ (x : Run). x.number) (p.runs 0))
+      runs = λ i. run_append m c i xs ys (ap (λ (x : Running). x.number) (p.runs i))
+          ∙ ap (λ (x : Running). run m x.chip (i + length xs) ys) (p.runs i) ∙ q.runs (i + length xs);
+      draws = applied_append m c 0 xs ys old (ap (λ (x : Running). x.number) (p.runs 0))
           ∙ (λ t. applied (p.runs 0 t).chip ys (p.draws t)) ∙ q.draws;
     }
 
@@ -50,7 +50,7 @@ module _ (m : ℕ) (stream memory : List ℕ) {new : List ℕ} {c : Chip} (sized
   pub plays_accepted : playing m stream memory ≡ accepted_by_lem c.screen
   plays_accepted =
       whole m stream memory sized cut (run m new_chip 0 (records_of stream)) refl
-      ∙ ap (λ (x : Run). ending x (length stream / 8)) (p.runs 0) ∙ end_accepted (reached c) (length stream / 8) refl idle
+      ∙ ap (λ (x : Running). ending x (length stream / 8)) (p.runs 0) ∙ end_accepted (reached c) (length stream / 8) refl idle
 
   pub plays_played : played m stream memory ≡ new
   plays_played = sym (accepts m stream memory c.screen (applied new_chip (records_of stream) memory) refl plays_accepted).1.1 ∙ p.draws

@@ -12,7 +12,7 @@ use Rattle.chip.specs.Register.{fits, screen_after}
 use Rattle.chip.specs.Admit.{refusal, chip_after}
 use Rattle.chip.specs.Play.{run}
 use Rattle.chip.specs.declared.Chip.{Chip}
-use Rattle.chip.specs.declared.Run.{Run}
+use Rattle.chip.specs.Play.{Running}
 use Rattle.chip.proofs.Admits.{admits}
 
 -- of the starts, the offsets and the edges
@@ -50,5 +50,5 @@ module _ (P Q E : ℕ → Type 0) (start : (v : ℕ) → fits 0x40 v ≡ true �
   unfolding run
   each_run m c i [] f = f
   each_run m c i (r ∷ rs) f =
-      both_ways (λ (x : Run). Each P Q E x.chip.screen) (eqb (refusal m c r) 0) _ _
+      both_ways (λ (x : Running). Each P Q E x.chip.screen) (eqb (refusal m c r) 0) _ _
       (λ e. each_run m (chip_after c r) (suc i) rs (after_record c r f (admits m c r (eqb-true (refusal m c r) 0 e)).field)) (λ e. f)

@@ -12,7 +12,7 @@ use Rattle.record.proofs.Checks.{none, first_part, second_part, first_place_lem,
 use Rattle.chip.specs.Admit.{admit_rows, refusal, chip_after}
 use Rattle.chip.specs.Play.{Playing, run, ending}
 use Rattle.chip.specs.declared.Chip.{Chip}
-use Rattle.chip.specs.declared.Run.{Run}
+use Rattle.chip.specs.Play.{Running}
 use Rattle.chip.proofs.Runs.{run_taken, run_refused}
 use Rattle.chip.proofs.Admits.{numbered}
 use Rattle.chip.proofs.Answers.{end_refused}
@@ -36,7 +36,7 @@ module _ (m : ℕ) (c : Chip) (i : ℕ) (r : Record) (rs : List Record) (n : ℕ
   row_passed : refusal m c r ≡ 0 → Says (ending (run m c i (r ∷ rs)) n) (rows_at i (admit_rows m c r) ++ rest)
   unfolding refusal
   row_passed e =
-      let next = ap (λ (x : Run). ending x n) (run_taken m c i r rs e) in
+      let next = ap (λ (x : Running). ending x n) (run_taken m c i r rs e) in
       let pass = none (rows_at i (admit_rows m c r)) (numbered_at i (admit_rows m c r) (numbered m c r)) (number_at i (admit_rows m c r) ∙ e) in (
         ap (λ (x : Playing). x.number) next ∙ others.0 ∙ sym (second_part (rows_at i (admit_rows m c r)) rest pass),
         ap (λ (x : Playing). x.place) next ∙ others.1 ∙ sym (second_place (rows_at i (admit_rows m c r)) rest pass),
@@ -45,7 +45,7 @@ module _ (m : ℕ) (c : Chip) (i : ℕ) (r : Record) (rs : List Record) (n : ℕ
   row_failed : (refusal m c r ≡ 0 → ⊥) → Says (ending (run m c i (r ∷ rs)) n) (rows_at i (admit_rows m c r) ++ rest)
   unfolding refusal
   row_failed e =
-      let stop = ap (λ (x : Run). ending x n) (run_refused m c i r rs e) ∙ end_refused (record { number = refusal m c r; place = i; chip = c }) n e in
+      let stop = ap (λ (x : Running). ending x n) (run_refused m c i r rs e) ∙ end_refused (record { number = refusal m c r; place = i; chip = c }) n e in
       let some : 0 < first_of (admit_rows m c r) = omega arith in
       let some_at : 0 < first_of (rows_at i (admit_rows m c r)) = omega (arith, number_at i (admit_rows m c r)) in (
         ap (λ (x : Playing). x.number) stop ∙ sym (first_part (rows_at i (admit_rows m c r)) rest some_at ∙ number_at i (admit_rows m c r)),

@@ -1,13 +1,13 @@
 -- Playing a stream over a memory (01, "Refusal numbers": playing checks 18, 19, then 20 to 23 record by record, the end last).
-use Rattle.std.specs.Prelude.{ℕ, suc, ◌/◌, ◌%◌, List, [], ◌∷◌, not, cond, length, eqb}
+use Rattle.std.specs.Prelude.{ℕ, suc, ◌/◌, ◌%◌, List, [], ◌∷◌, not, cond, length, Result, Ok, Err, eqb}
 use Rattle.record.specs.Record.{records_of}
 use Rattle.record.specs.declared.Record.{Record}
 use Rattle.screen.specs.declared.ScreenValues.{ScreenValues}
 use Rattle.chip.specs.Admit.{refusal, no_data, chip_after, effect}
 use Rattle.chip.specs.declared.Chip.{Chip}
 use Rattle.chip.specs.declared.Run.{Run}
-use Rattle.chip.specs.declared.Played.{Played}
-use Rattle.chip.specs.declared.Played.TheVariants.{Accepted, Refused}
+use Rattle.refusal.specs.Number as refusals
+use Rattle.refusal.specs.declared.Refused.{Refused}
 
 abbrev pub no_values : ScreenValues
 no_values = record { main = record { start = 0; offset = 0 }; window = record { start = 0; offset = 0 }; x = 0; y = 0 }
@@ -21,8 +21,14 @@ new_chip =
       due = no_data;
     }
 
+-- what records come to: the number and index of the first that is refused, or 0 and 0, and the chip after those before it
+pub record Running : Type 0 where
+  pub number : ℕ
+  pub place : ℕ
+  pub chip : Chip
+
 -- admits records in order, of which the first has index i: the chip after them, or the first refusal and its index
-unfoldable pub run : ℕ → Chip → ℕ → List Record → Run
+unfoldable pub run : ℕ → Chip → ℕ → List Record → Running
 run m c i [] = record { number = 0; place = 0; chip = c }
 run m c i (r ∷ rs) =
     cond (eqb (refusal m c r) 0) (run m (chip_after c r) (suc i) rs) (record { number = refusal m c r; place = i; chip = c })
@@ -42,7 +48,7 @@ abbrev pub refused_by : ℕ → ℕ → Playing
 refused_by n i = record { number = n; place = i; values = no_values }
 
 -- the end of a stream of n records: 23 while data is due
-unfoldable pub ending : Run → ℕ → Playing
+unfoldable pub ending : Running → ℕ → Playing
 ending r n =
     cond (not (eqb r.number 0)) (refused_by r.number r.place)
     (cond r.chip.due.any (refused_by 23 n) (record { number = 0; place = 0; values = r.chip.screen }))
@@ -59,15 +65,19 @@ unfoldable pub played : ℕ → List ℕ → List ℕ → List ℕ
 played m stream memory = cond (eqb (playing m stream memory).number 0) (applied new_chip (records_of stream) memory) memory
 
 -- 01's numbers of an answer: of a refusal all but number and place are 0
-unfoldable pub playing_of : Played → Playing
-playing_of (Accepted v) = record { number = 0; place = 0; values = v }
-playing_of (Refused n i) =
+unfoldable pub playing_of : Result ScreenValues Refused → Playing
+playing_of (Ok v) = record { number = 0; place = 0; values = v }
+playing_of (Err r) =
     record {
-      number = n;
-      place = i;
+      number = refusals.number r.refusal;
+      place = r.place;
       values = record { main = record { start = 0; offset = 0 }; window = record { start = 0; offset = 0 }; x = 0; y = 0 };
     }
 
 -- the answer with these numbers
-unfoldable pub answer_of : Playing → Played
-answer_of p = cond (eqb p.number 0) (Accepted p.values) (Refused p.number p.place)
+unfoldable pub answer_of : Playing → Result ScreenValues Refused
+answer_of p = refusals.answered_at p.number p.place p.values
+
+-- the numbers of a run
+unfoldable pub running_of : Run → Running
+running_of r = record { number = refusals.number_at r.refused; place = refusals.place_at r.refused; chip = r.chip }

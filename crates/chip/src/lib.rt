@@ -1,11 +1,12 @@
 // The chip model: registers, and playing a stream over a lent display memory.
 #![tactic(auto)]
 
+use refusal::Refused;
 use screen::ScreenValues;
 
 // The blit registers 8000h, 8008h, 800Ch, 8010h, 8014h, 8018h, 801Ch, 8020h and 8024h.
 #[repr(C)]
-#[derive(Clone, Copy)]
+#[derive(Clone, Copy, Default)]
 pub struct Registers {
     pub control: u32,
     pub command: u32,
@@ -19,7 +20,7 @@ pub struct Registers {
 }
 
 // Whether a data word is due, its line, and its index in the line.
-#[derive(Clone, Copy)]
+#[derive(Clone, Copy, Default)]
 pub struct Due {
     pub any: bool,
     pub line: u16,
@@ -27,23 +28,16 @@ pub struct Due {
 }
 
 // All registers, and the data that is due.
-#[derive(Clone, Copy)]
+#[derive(Clone, Copy, Default)]
 pub struct Chip {
     pub screen: ScreenValues,
     pub blit: Registers,
     pub due: Due,
 }
 
-// A refusal number and the record's index, or 0, 0 and the chip after the records.
+// What the records of a stream come to: the chip after those that are admitted, and the refusal of the first that is not, at its index.
 #[derive(Clone, Copy)]
 pub struct Run {
-    pub number: u32,
-    pub place: u64,
     pub chip: Chip,
-}
-
-#[derive(Clone, Copy)]
-pub enum Played {
-    Accepted(ScreenValues),
-    Refused(u32, u64),
+    pub refused: Option<Refused>,
 }

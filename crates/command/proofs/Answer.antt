@@ -2,16 +2,18 @@
 use Prim.Native.Nat.{ℕ, ◌<◌}
 use mathlib.Core.Path.{◌≡◌, refl, sym, ap, ◌∙◌}
 use mathlib.Core.List.{List, [], ◌∷◌}
-use mathlib.Core.Bool.{Bool, true, false, not, ◌&&◌, ◌||◌, cond, and-true}
-use native.Mathlib.Omega.{arith}
+use mathlib.Core.Bool.{Bool, not, ◌&&◌, ◌||◌, and-true}
 use lib.Dec.{eqb, ltb, lit<}
-use borrow.Author.Tests.{eqb-true, eqb-false, eq-eqb, ne_eqb}
 use Rattle.record.specs.Bytes.{all_zero}
 use Rattle.record.specs.Checks.{rows_with, Numbered}
 use Rattle.screen.specs.declared.Screen.{Screen}
-use Rattle.command.specs.Command.{command_of, must_be_zero, formed, placed, clashes, words_taken, command_rows, refusal, command_answer, number_of}
+use Rattle.command.specs.Command.{command_of, must_be_zero, formed, placed, clashes, words_taken, command_rows, refusal, command_answer}
 use Rattle.command.specs.declared.Command.{Command}
-use Rattle.command.specs.declared.CommandAnswer.TheVariants.{Accepted, Refused}
+use Rattle.std.specs.Prelude.{Ok, Err}
+use Rattle.refusal.specs.Number as refusals
+use Rattle.refusal.specs.Number.{number_of}
+use Rattle.refusal.specs.declared.Refusal.{Refusal}
+use Rattle.refusal.proofs.Numbers.{Listed, accepted, refused_with, accepted_by, refused_first, number_answered}
 use Rattle.command.proofs.Operation.{by_fill, by_move, by_write, by_pattern, by_keyed, by_other}
 
 -- 0 is the number of no row
@@ -53,45 +55,31 @@ pub rows_are : (m : ℕ) (s : Screen) (left : ℕ) (b : List ℕ) (c : Command) 
 unfolding command_rows rows_with
 rows_are m s left b c f p k w e g h i = rw (e, g, h, i)
 
-answers : (t : Bool) (n : ℕ) (u c : Command) → cond t (Accepted u) (Refused n) ≡ Accepted c → (t ≡ true) × (c ≡ u)
-answers true n u c e = (refl, (cc))
-answers false n u c e = let z : ◌≡◌ {A = ℕ} 0 1 = cc in absurd (omega arith)
-
-refuses_by : (t : Bool) (n k : ℕ) (u : Command) → cond t (Accepted u) (Refused n) ≡ Refused k → (t ≡ false) × (n ≡ k)
-refuses_by true n k u e = let z : ◌≡◌ {A = ℕ} 0 1 = cc in absurd (omega arith)
-refuses_by false n k u e = (refl, (cc))
+-- every row's number is a refusal's
+pub command_listed : (m : ℕ) (s : Screen) (left : ℕ) (b : List ℕ) (c : Command) → Listed (command_rows m s left b c)
+unfolding command_rows Listed refusals.number refusals.refusal
+command_listed m s left b c = (refl, (refl, (refl, (refl, (refl, tt)))))
 
 module _ (m : ℕ) (s : Screen) (left : ℕ) (b : List ℕ) where
-  pub accepts : refusal m s left b ≡ 0 → Accepted (command_of b) ≡ command_answer m s left b
+  pub accepts : refusal m s left b ≡ 0 → Ok (command_of b) ≡ command_answer m s left b
   unfolding command_answer
-  accepts e = simp (eq-eqb _ _ e)
+  accepts e = sym (accepted (command_of b) _ e)
 
-  pub refuses : (n : ℕ) → 0 < n → refusal m s left b ≡ n → Refused n ≡ command_answer m s left b
+  pub refuses : (r : Refusal) → refusals.number r ≡ refusal m s left b → Err r ≡ command_answer m s left b
   unfolding command_answer
-  refuses n h e = simp (e, ne_eqb n 0 (λ z. omega arith))
+  refuses r e = sym (refused_with (command_of b) r _ e)
 
   -- the answer's number is the table's
   pub number_is : number_of (command_answer m s left b) ≡ refusal m s left b
-  unfolding command_answer number_of
-  number_is = chosen (eqb (refusal m s left b) 0) refl
-    where
-      chosen : (t : Bool) → eqb (refusal m s left b) 0 ≡ t → number_of (cond t (Accepted (command_of b)) (Refused (refusal m s left b))) ≡ refusal m s left b
-      chosen true e = sym (eqb-true _ 0 e)
-      chosen false e = refl
+  unfolding command_answer refusal
+  number_is = number_answered (command_of b) (command_rows m s left b (command_of b)) (command_listed m s left b (command_of b))
 
   -- an accepted record: its command is its fields, and none of 12 to 15 and 29 holds
-  pub command_accepted : (c : Command) → command_answer m s left b ≡ Accepted c → (c ≡ command_of b) × (refusal m s left b ≡ 0)
+  pub command_accepted : (c : Command) → command_answer m s left b ≡ Ok c → (c ≡ command_of b) × (refusal m s left b ≡ 0)
   unfolding command_answer
-  command_accepted c e =
-      let a = answers (eqb (refusal m s left b) 0) (refusal m s left b) (command_of b) c e in
-      (a.1, eqb-true (refusal m s left b) 0 a.0)
+  command_accepted c e = let a = accepted_by (refusal m s left b) (command_of b) c e in (a.1, a.0)
 
   -- a refused record: the number is the table's, and above 0
-  pub command_refused : (n : ℕ) → command_answer m s left b ≡ Refused n → (refusal m s left b ≡ n) × (0 < n)
-  unfolding command_answer
-  command_refused n e =
-      let a = refuses_by (eqb (refusal m s left b) 0) (refusal m s left b) n (command_of b) e in
-      (a.1, above (refusal m s left b) n a.1 (eqb-false (refusal m s left b) 0 a.0))
-    where
-      above : (k j : ℕ) → k ≡ j → (k ≡ 0 → ⊥) → 0 < j
-      above k j p h = omega arith
+  pub command_refused : (r : Refusal) → command_answer m s left b ≡ Err r → (refusal m s left b ≡ refusals.number r) × (0 < refusals.number r)
+  unfolding command_answer refusal
+  command_refused r e = refused_first (command_rows m s left b (command_of b)) (command_listed m s left b (command_of b)) (command_of b) r e

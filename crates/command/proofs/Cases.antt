@@ -10,10 +10,12 @@ use Rattle.record.specs.Checks.{first_of}
 use Rattle.screen.specs.Screen.{memory_size, view_width, view_height, main_image, window_image}
 use Rattle.screen.specs.declared.Screen.{Screen}
 use Rattle.command.specs.Sharing.{Lines, meet, any_of, share_byte}
-use Rattle.command.specs.Command.{command_of, command_bytes, surface_of, address_of, destination_of, source_of, must_be_zero, pattern_fits, formed, inside_image, placed, clashes, line_words, words_taken, command_rows, names_command, refusal, command_answer, number_of}
+use Rattle.command.specs.Command.{command_of, command_bytes, surface_of, address_of, destination_of, source_of, must_be_zero, pattern_fits, formed, inside_image, placed, clashes, line_words, words_taken, command_rows, names_command, refusal, command_answer}
 use Rattle.command.specs.Values.{is_negative, last_column, last_line, command_value, pattern_value, source_value, destination_value, control_value, blit_registers, uses, blit_values}
 use Rattle.command.specs.declared.Command.{Command}
-use Rattle.command.specs.declared.CommandAnswer.TheVariants.{Accepted, Refused}
+use Rattle.std.specs.Prelude.{Ok, Err}
+use Rattle.refusal.specs.Number as refusals
+use Rattle.refusal.specs.declared.Refusal.TheVariants.{FewWords}
 
 -- an upright screen with a window of 8 by 4 at byte 1,024
 abbrev screen : ℕ → ℕ → ℕ → Screen
@@ -372,9 +374,9 @@ unfolding all_zero first_of view_width view_height main_image window_image surfa
 clash_order = (refl, refl, refl, refl)
 
 -- an answer and its number
-pub answers : (command_answer memory_size (screen 8 8 4) 0 fill ≡ Accepted (command 0 0 0 2 1 3 2 0 0 0))
-    × (command_answer memory_size (screen 8 8 4) 3 write ≡ Refused 15)
-    × (number_of (Accepted (command 0 0 0 2 1 3 2 0 0 0)) ≡ 0)
-    × (number_of (Refused 15) ≡ 15)
-unfolding all_zero first_of view_width view_height main_image window_image surface_of address_of destination_of source_of command_of must_be_zero pattern_fits formed inside_image placed any_of share_byte clashes line_words words_taken command_rows refusal command_answer number_of
+pub answers : (command_answer memory_size (screen 8 8 4) 0 fill ≡ Ok (command 0 0 0 2 1 3 2 0 0 0))
+    × (command_answer memory_size (screen 8 8 4) 3 write ≡ Err FewWords)
+    × (refusals.number_of {A = Command} (Ok (command 0 0 0 2 1 3 2 0 0 0)) ≡ 0)
+    × (refusals.number_of {A = Command} (Err FewWords) ≡ 15)
+unfolding all_zero first_of view_width view_height main_image window_image surface_of address_of destination_of source_of command_of must_be_zero pattern_fits formed inside_image placed any_of share_byte clashes line_words words_taken command_rows refusal command_answer refusals.answered refusals.number refusals.refusal refusals.number_of
 answers = (refl, refl, refl, refl)

@@ -14,6 +14,9 @@ use Rattle.command.specs.Command.{command_of, names_command, words_taken, refusa
 use Rattle.command.specs.Task.{first_refusal, all_words}
 use Rattle.command.proofs.Fine.{Fine, fine}
 use Rattle.command.proofs.Numbers.{refusal_number}
+use Rattle.command.proofs.Answer.{command_listed}
+use Rattle.refusal.specs.Number as refusals
+use Rattle.refusal.proofs.Numbers.{first_listed}
 
 unfoldable pub AllFine : ℕ → Screen → ℕ → List (List ℕ) → Type 0
 AllFine m s left [] = Unit {0}
@@ -65,3 +68,18 @@ module _ (m : ℕ) (s : Screen) where
       chosen : (r : Refusal) (t : Bool) → (0 < r.number → RefusesOne (suc i + length bs) r) → 0 < (cond t r (record { number = refusal m s left b; place = i })).number → RefusesOne (i + suc (length bs)) (cond t r (record { number = refusal m s left b; place = i }))
       chosen r true g f = let k = g f in (k.0, omega (arith, k.1))
       chosen r false g f = (refusal_number m s left b f, omega arith)
+
+  -- its number is a refusal's
+  listed_alone : (left : ℕ) (b : List ℕ) → 0 < refusal m s left b → refusals.number (refusals.refusal (refusal m s left b)) ≡ refusal m s left b
+  unfolding refusal
+  listed_alone left b h = first_listed _ (command_listed m s left b (command_of b)) h
+
+  pub refusal_listed : (i left : ℕ) (commands : List (List ℕ)) → 0 < (first_refusal m s i left commands).number → refusals.number (refusals.refusal (first_refusal m s i left commands).number) ≡ (first_refusal m s i left commands).number
+  unfolding first_refusal
+  refusal_listed i left [] h = absurd (omega arith)
+  refusal_listed i left (b ∷ bs) h = chosen (first_refusal m s (suc i) (left - words_taken s (command_of b)) bs) (eqb (refusal m s left b) 0) (refusal_listed (suc i) (left - words_taken s (command_of b)) bs) h
+    where
+      chosen : (r : Refusal) (t : Bool) → (0 < r.number → refusals.number (refusals.refusal r.number) ≡ r.number) → 0 < (cond t r (record { number = refusal m s left b; place = i })).number
+          → refusals.number (refusals.refusal (cond t r (record { number = refusal m s left b; place = i })).number) ≡ (cond t r (record { number = refusal m s left b; place = i })).number
+      chosen r true g f = g f
+      chosen r false g f = listed_alone left b f

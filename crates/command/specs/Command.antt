@@ -1,5 +1,5 @@
 -- The command record (01, "Stored records"; its long form: 02, g), and its refusals 12 to 15 (01, "Refusal numbers") and 29 (02, h).
-use Rattle.std.specs.Prelude.{ℕ, ◌+◌, ◌*◌, ◌/◌, ◌%◌, List, [], ◌∷◌, ◌++◌, Bool, true, false, not, ◌&&◌, ◌||◌, cond, length, take, drop, replicate, leb, ltb, eqb}
+use Rattle.std.specs.Prelude.{Result, ℕ, ◌+◌, ◌*◌, ◌/◌, ◌%◌, List, [], ◌∷◌, ◌++◌, Bool, true, false, not, ◌&&◌, ◌||◌, cond, length, take, drop, replicate, leb, ltb, eqb}
 use Rattle.record.specs.Bytes.{byte_at, u16_at, u32_at, two_bytes, all_zero}
 use Rattle.record.specs.Checks.{Row, row, first_of}
 use Rattle.screen.specs.Image.{line_bytes}
@@ -8,8 +8,8 @@ use Rattle.screen.specs.declared.Image.{Image}
 use Rattle.screen.specs.declared.Screen.{Screen}
 use Rattle.command.specs.Sharing.{Lines, share_byte}
 use Rattle.command.specs.declared.Command.{Command}
-use Rattle.command.specs.declared.CommandAnswer.{CommandAnswer}
-use Rattle.command.specs.declared.CommandAnswer.TheVariants.{Accepted, Refused}
+use Rattle.refusal.specs.Number.{answered}
+use Rattle.refusal.specs.declared.Refusal.{Refusal}
 
 -- the record's fields; a record of 32 bytes has none of the last four, and they are 0
 unfoldable pub command_of : List ℕ → Command
@@ -164,10 +164,5 @@ unfoldable pub refusal : ℕ → Screen → ℕ → List ℕ → ℕ
 refusal m s left b = first_of (command_rows m s left b (command_of b))
 
 -- the answer to a record
-unfoldable pub command_answer : ℕ → Screen → ℕ → List ℕ → CommandAnswer
-command_answer m s left b = cond (eqb (refusal m s left b) 0) (Accepted (command_of b)) (Refused (refusal m s left b))
-
--- 01's number of an answer
-unfoldable pub number_of : CommandAnswer → ℕ
-number_of (Accepted c) = 0
-number_of (Refused n) = n
+unfoldable pub command_answer : ℕ → Screen → ℕ → List ℕ → Result Command Refusal
+command_answer m s left b = answered (refusal m s left b) (command_of b)

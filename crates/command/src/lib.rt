@@ -20,9 +20,3 @@ pub struct Command {
     pub py: u8,
     pub pattern: u32,
 }
-
-#[derive(Clone, Copy)]
-pub enum CommandAnswer {
-    Accepted(Command),
-    Refused(u32),
-}

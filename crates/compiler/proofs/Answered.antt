@@ -13,7 +13,10 @@ use Rattle.record.proofs.Stores.{sets_over}
 use Rattle.screen.specs.declared.Screen.{Screen}
 use Rattle.compiler.specs.Compile.{Compiling, refused_by, answered, buffer_with, compiling_of, answer_of}
 use Rattle.compiler.specs.declared.Compiled.{Compiled}
-use Rattle.compiler.specs.declared.Compiled.TheVariants.{Accepted, Refused}
+use Rattle.std.specs.Prelude.{Result, Ok, Err}
+use Rattle.refusal.specs.Number as refusals
+use Rattle.refusal.specs.declared.Refused.{Refused}
+use Rattle.refusal.proofs.Numbers.{accepted_at, refused_with_at, number_positive}
 
 module _ (r : Refusal) (s : Screen) (size : ℕ) where
   -- its number and place are the refusal's
@@ -36,19 +39,22 @@ module _ (r : Refusal) (s : Screen) (size : ℕ) where
   pub answered_accepted : r.number ≡ 0 → answered r s size ≡ record { number = 0; place = 0; length = size; depth = s.depth; rotation = s.rotation; flag = s.flag }
   answered_accepted e = rw e
 
--- ---- the answer as an enum
-abbrev pub ToldBy : Compiling → List ℕ → List ℕ → Compiled → List ℕ → Type 0
+-- ---- the answer as a result
+abbrev pub ToldBy : Compiling → List ℕ → List ℕ → Result Compiled Refused → List ℕ → Type 0
 ToldBy c stream old r new = (compiling_of r ≡ c) × ((r ≡ answer_of c) × (new ≡ buffer_with c stream old))
 
 module _ (r : Refusal) (s : Screen) (size : ℕ) (stream old : List ℕ) where
-  pub refused_by_lem : (n i : ℕ) → 0 < n → r ≡ record { number = n; place = i } → ToldBy (answered r s size) stream old (Refused n i) old
+  pub refused_by_lem : (x : Refused) → r ≡ record { number = refusals.number x.refusal; place = x.place } → ToldBy (answered r s size) stream old (Err x) old
   unfolding compiling_of answer_of
-  refused_by_lem n i h e = let z : eqb n 0 ≡ false = ne_eqb n 0 (λ z. omega arith) in rw (e, z) (refl, (rw z, rw z))
+  refused_by_lem x e =
+      let p = number_positive x.refusal in
+      let z : eqb (refusals.number x.refusal) 0 ≡ false = ne_eqb (refusals.number x.refusal) 0 (λ z. omega (arith, p)) in
+      rw (e, z) (refl, (sym (refused_with_at _ x _ x.place refl refl), rw z))
 
   pub accepted_by : r.number ≡ 0 → length stream ≤ length old → (new : List ℕ) → new ≡ sets old 0 stream
-      → ToldBy (answered r s size) stream old (Accepted size s.depth s.rotation s.flag) new
+      → ToldBy (answered r s size) stream old (Ok (record { length = size; depth = s.depth; rotation = s.rotation; flag = s.flag })) new
   unfolding compiling_of answer_of
-  accepted_by e h new f = rw e (refl, (refl, f ∙ sets_over old stream h))
+  accepted_by e h new f = rw e (refl, (sym (accepted_at _ 0 0 refl), f ∙ sets_over old stream h))
 
 -- ---- the stream in the length that an answer gives
 pub stream_given_lem : (c : Compiling) (stream old : List ℕ) → c.number ≡ 0 → c.length ≡ length stream → take c.length (buffer_with c stream old) ≡ stream

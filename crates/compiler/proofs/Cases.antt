@@ -20,7 +20,11 @@ use Rattle.command.proofs.Tasks.{panel, bad_window, fill, move, write, strange, 
 use Rattle.compiler.specs.Stream.{records_with, screen_records, data_records, command_records, draw_records, records_for}
 use Rattle.compiler.specs.Compile.{room_rows, refusal_of, compiling, stream_of, buffer_after, compiling_of, answer_of, numbers_of}
 use Rattle.compiler.specs.Part.{part_from, part_size}
-use Rattle.compiler.specs.declared.Compiled.TheVariants.{Accepted, Refused}
+use Rattle.compiler.specs.declared.Compiled.{Compiled}
+use Rattle.std.specs.Prelude.{Ok, Err}
+use Rattle.refusal.specs.Number as refusals
+use Rattle.refusal.specs.declared.Refused.{Refused}
+use Rattle.refusal.specs.declared.Refusal.TheVariants.{Outside}
 
 -- a list's form, a screen record, a list, host words, and a buffer of `room` sevens, of which the first `shown` bytes are asked for
 pub record Case : Type 0 where
@@ -175,9 +179,15 @@ unfolding all_zero record_bytes stream_bytes first_of is_depth image_end start_o
 cases_hold = refl
 
 -- the numbers of an answer, and the answer with these numbers
-pub answers : (compiling_of (Refused 14 7) ≡ record { number = 14; place = 7; length = 0; depth = 0; rotation = 0; flag = 0 })
-    × (compiling_of (Accepted 120 8 1 0) ≡ record { number = 0; place = 0; length = 120; depth = 8; rotation = 1; flag = 0 })
-    × (answer_of (record { number = 14; place = 7; length = 0; depth = 0; rotation = 0; flag = 0 }) ≡ Refused 14 7)
-    × (answer_of (record { number = 0; place = 0; length = 120; depth = 8; rotation = 1; flag = 0 }) ≡ Accepted 120 8 1 0)
-unfolding compiling_of answer_of
+abbrev outside_7 : Refused
+outside_7 = record { refusal = Outside; place = 7 }
+
+abbrev bytes_120 : Compiled
+bytes_120 = record { length = 120; depth = 8; rotation = 1; flag = 0 }
+
+pub answers : (compiling_of (Err outside_7) ≡ record { number = 14; place = 7; length = 0; depth = 0; rotation = 0; flag = 0 })
+    × (compiling_of (Ok bytes_120) ≡ record { number = 0; place = 0; length = 120; depth = 8; rotation = 1; flag = 0 })
+    × (answer_of (record { number = 14; place = 7; length = 0; depth = 0; rotation = 0; flag = 0 }) ≡ Err outside_7)
+    × (answer_of (record { number = 0; place = 0; length = 120; depth = 8; rotation = 1; flag = 0 }) ≡ Ok bytes_120)
+unfolding compiling_of answer_of refusals.answered_at refusals.number refusals.refusal
 answers = (refl, refl, refl, refl)

@@ -1,6 +1,6 @@
 -- The first pass, after i commands.
 use Prim.Native.Nat.{ℕ, ◌+◌, ◌-◌, ◌*◌, ◌/◌, ◌<◌, ◌≤◌}
-use mathlib.Core.Path.{◌≡◌, refl, ap, ◌∙◌}
+use mathlib.Core.Path.{◌≡◌, refl, sym, ap, ◌∙◌}
 use mathlib.Core.List.{List, [], ◌∷◌}
 use native.Mathlib.Nat.{sub-zero, zero-add, sub-add-eq}
 use native.Mathlib.Omega.{arith}
@@ -12,7 +12,11 @@ use Rattle.screen.specs.declared.Screen.{Screen}
 use Rattle.command.specs.Command.{command_of, words_taken, command_answer}
 use Rattle.command.specs.Task.{first_refusal, all_words}
 use Rattle.command.specs.declared.Command.{Command}
-use Rattle.command.specs.declared.CommandAnswer.TheVariants.{Accepted, Refused}
+use Rattle.std.specs.Prelude.{Result, Ok, Err}
+use Rattle.refusal.specs.Number as refusals
+use Rattle.refusal.specs.declared.Refusal.{Refusal}
+use Rattle.refusal.specs.declared.Refused.{Refused}
+use Rattle.refusal.proofs.Numbers.{accepted_at, refused_with_at}
 use Rattle.command.proofs.Answer.{command_accepted, command_refused}
 use Rattle.command.proofs.Fine.{fine}
 use Rattle.command.proofs.Commands.{refusal_go, refusal_stop}
@@ -52,13 +56,13 @@ module _ (m : ℕ) (s : Screen) (size : ℕ) (list : List ℕ) (left : ℕ) wher
 
   module _ (count i used : ℕ) (g : Going count i used) where
     -- an accepted command's words are there
-    pub words_fit : (c : Command) → command_answer m s (left - used) (part_at size list i) ≡ Accepted c → used + words_taken s c ≤ left
+    pub words_fit : (c : Command) → command_answer m s (left - used) (part_at size list i) ≡ Ok c → used + words_taken s c ≤ left
     words_fit c p =
         let a = command_accepted m s (left - used) (part_at size list i) c p in
         let f = (fine m s (left - used) (part_at size list i) a.1).words in
         rw a.0 (omega (arith, f, g.fits))
 
-    pub going_turn : (c : Command) → i < count → words_taken s c ≤ 4294967295 → command_answer m s (left - used) (part_at size list i) ≡ Accepted c → Going count (i + 1) (used + words_taken s c)
+    pub going_turn : (c : Command) → i < count → words_taken s c ≤ 4294967295 → command_answer m s (left - used) (part_at size list i) ≡ Ok c → Going count (i + 1) (used + words_taken s c)
     going_turn c h w p =
         let a = command_accepted m s (left - used) (part_at size list i) c p in
         record {
@@ -72,17 +76,17 @@ module _ (m : ℕ) (s : Screen) (size : ℕ) (list : List ℕ) (left : ℕ) wher
           words_are = omega (arith, g.words_are, ap (all_words s) (parts_step size list i count h), all_step (part_at size list i) (rest size list count (i + 1)), ap (words_taken s) a.0);
         }
 
-    pub pass_refused : (n : ℕ) → i < count → command_answer m s (left - used) (part_at size list i) ≡ Refused n → record { number = n; place = i; used = 0 } ≡ pass_of m s left (parts_of size list)
+    pub pass_refused : (r : Refusal) → i < count → command_answer m s (left - used) (part_at size list i) ≡ Err r → Err (record { refusal = r; place = i }) ≡ pass_of m s left (parts_of size list)
     unfolding pass_of
-    pass_refused n h p =
-        let a = command_refused m s (left - used) (part_at size list i) n p in
+    pass_refused r h p =
+        let a = command_refused m s (left - used) (part_at size list i) r p in
         let e = g.refusal_is ∙ ap (λ (bs : List (List ℕ)). first_refusal m s i (left - used) bs) (parts_step size list i count h)
-        ∙ refusal_stop m s i (left - used) n (part_at size list i) (rest size list count (i + 1)) a.0 a.1 in
-        rw (e, ne_eqb n 0 (λ z. omega arith))
+        ∙ refusal_stop m s i (left - used) (refusals.number r) (part_at size list i) (rest size list count (i + 1)) a.0 a.1 in
+        rw e (sym (refused_with_at _ (record { refusal = r; place = i }) _ i refl refl))
 
-    pub pass_done : count ≤ i → record { number = 0; place = 0; used = used } ≡ pass_of m s left (parts_of size list)
+    pub pass_done : count ≤ i → Ok used ≡ pass_of m s left (parts_of size list)
     unfolding pass_of
     pass_done h =
         let e = g.refusal_is ∙ ap (λ (bs : List (List ℕ)). first_refusal m s i (left - used) bs) (parts_end size list i count h) ∙ refusal_end i (left - used) in
         let w : all_words s (parts_of size list) ≡ used = omega (arith, g.words_are, ap (all_words s) (parts_end size list i count h), all_end) in
-        rw (e, w)
+        rw (e, w) (sym (accepted_at _ 0 0 refl))

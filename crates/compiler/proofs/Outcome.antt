@@ -15,17 +15,20 @@ use Rattle.record.proofs.Lists.{length_parts}
 use Rattle.record.proofs.Stores.{length_stream}
 use Rattle.screen.specs.Screen.{fields_of, screen_rows, screen_of}
 use Rattle.screen.specs.declared.Screen.{Screen}
-use Rattle.screen.specs.declared.ScreenAnswer.TheVariants as screen-answer
-use Rattle.screen.proofs.Read.{read_accepted}
+use Rattle.screen.proofs.Read.{read_accepted, screen_listed}
 use Rattle.command.specs.Task.{is_form, Task, screen_in, commands_in, list_rows, first_refusal, all_words, word_rows, task_refusal}
-use Rattle.command.proofs.Commands.{all_fine, words_suffice}
+use Rattle.command.proofs.Commands.{all_fine, words_suffice, refusal_listed}
 use Rattle.command.proofs.Task.{list_says, words_left, words_fit, by_screen, by_list, by_command, by_end}
 use Rattle.compiler.specs.Stream.{screen_records, draw_records, records_for, records_in}
 use Rattle.compiler.specs.Compile.{room_rows, refusal_of, compiling, stream_of, buffer_after, compiling_of, answer_of}
 use Rattle.compiler.specs.Pass.{pass_of}
-use Rattle.compiler.specs.declared.Pass.{Pass}
 use Rattle.compiler.specs.declared.Compiled.{Compiled}
-use Rattle.compiler.specs.declared.Compiled.TheVariants.{Accepted, Refused}
+use Rattle.std.specs.Prelude.{Result, Ok, Err}
+use Rattle.refusal.specs.Number as refusals
+use Rattle.refusal.specs.declared.Refusal.{Refusal as Named}
+use Rattle.refusal.specs.declared.Refusal.TheVariants.{WordsLeft, Room}
+use Rattle.refusal.specs.declared.Refused.{Refused}
+use Rattle.refusal.proofs.Numbers.{refused_first, accepted_by_at, refused_by_at, number_positive}
 use Rattle.compiler.proofs.Answered.{refused_by_lem, accepted_by}
 use Rattle.compiler.proofs.Lengths.{length_screen, length_records}
 use Rattle.compiler.proofs.SecondPass.{stored_both}
@@ -55,59 +58,55 @@ module _ (m : ℕ) (t : Task) (room : ℕ) where
   by_room e = rw e
 
 -- an answer with all its numbers, and the buffer that goes with it
-abbrev pub Told : ℕ → Task → List ℕ → Compiled → List ℕ → Type 0
+abbrev pub Told : ℕ → Task → List ℕ → Result Compiled Refused → List ℕ → Type 0
 Told m t old r new = (compiling_of r ≡ compiling m t (length old)) × ((r ≡ answer_of (compiling m t (length old))) × (new ≡ buffer_after m t old))
 
 module _ (m : ℕ) (t : Task) (old : List ℕ) where
-  refused_told : (n i : ℕ) → 0 < n → refusal_of m t (length old) ≡ record { number = n; place = i } → Told m t old (Refused n i) old
+  refused_told : (x : Refused) → refusal_of m t (length old) ≡ record { number = refusals.number x.refusal; place = x.place } → Told m t old (Err x) old
   unfolding compiling buffer_after
-  refused_told n i h e = refused_by_lem (refusal_of m t (length old)) (screen_in t) (8 * length (records_in t)) (stream_of t) old n i h e
+  refused_told x e = refused_by_lem (refusal_of m t (length old)) (screen_in t) (8 * length (records_in t)) (stream_of t) old x e
 
-  task_told : (n i : ℕ) → 0 < n → task_refusal m t ≡ record { number = n; place = i } → Told m t old (Refused n i) old
-  task_told n i h e = refused_told n i h (by_task m t (length old) n i h e)
+  task_told : (x : Refused) → task_refusal m t ≡ record { number = refusals.number x.refusal; place = x.place } → Told m t old (Err x) old
+  task_told x e = refused_told x (by_task m t (length old) (refusals.number x.refusal) x.place (number_positive x.refusal) e)
 
   accepted_told : (size : ℕ) (new : List ℕ) → (refusal_of m t (length old)).number ≡ 0 → size ≡ 8 * length (records_in t) → size ≤ length old → new ≡ sets old 0 (stream_bytes (records_in t))
-      → Told m t old (Accepted size (screen_in t).depth (screen_in t).rotation (screen_in t).flag) new
+      → Told m t old (Ok (record { length = size; depth = (screen_in t).depth; rotation = (screen_in t).rotation; flag = (screen_in t).flag })) new
   unfolding compiling buffer_after stream_of
   accepted_told size new e k h f =
       let fits : length (stream_bytes (records_in t)) ≤ length old = omega (arith, length_stream (records_in t)) in
       rw k (accepted_by (refusal_of m t (length old)) (screen_in t) (8 * length (records_in t)) (stream_bytes (records_in t)) old e fits new f)
 
 -- ---- the first pass
--- its number and place are the first refusal's
-pass_refusal : (m : ℕ) (s : Screen) (left : ℕ) (commands : List (List ℕ)) (p : Pass) → p ≡ pass_of m s left commands → first_refusal m s 0 left commands ≡ record { number = p.number; place = p.place }
+-- a refusal is the first one, and what is accepted are the words
+pass_refusal : (m : ℕ) (s : Screen) (left : ℕ) (commands : List (List ℕ)) (r : Refused) → pass_of m s left commands ≡ Err r → first_refusal m s 0 left commands ≡ record { number = refusals.number r.refusal; place = r.place }
 unfolding pass_of
-pass_refusal m s left commands p e = rw e
+pass_refusal m s left commands r e =
+    let f = first_refusal m s 0 left commands in
+    let p = refused_by_at f.number f.place (all_words s commands) r (refusal_listed m s 0 left commands) e in
+    λ i. record { number = p.0 i; place = p.1 i }
 
-pass_words : (m : ℕ) (s : Screen) (left : ℕ) (commands : List (List ℕ)) (p : Pass) → p ≡ pass_of m s left commands → p.number ≡ 0 → p.used ≡ all_words s commands
+pass_words : (m : ℕ) (s : Screen) (left : ℕ) (commands : List (List ℕ)) (used : ℕ) → pass_of m s left commands ≡ Ok used → ((first_refusal m s 0 left commands).number ≡ 0) × (used ≡ all_words s commands)
 unfolding pass_of
-pass_words m s left commands p e z =
-    let f : (first_refusal m s 0 left commands).number ≡ 0 = ap (λ (r : Refusal). r.number) (pass_refusal m s left commands p e) ∙ z in
-    ap (λ (q : Pass). q.used) e ∙ (rw f)
+pass_words m s left commands used e = let f = first_refusal m s 0 left commands in accepted_by_at f.number f.place (all_words s commands) used e
 
 -- the stream's bytes, by what it counts
 size_is : (m : ℕ) (s : Screen) (commands : List (List ℕ)) (words : List ℕ) → (first_refusal m s 0 (length words) commands).number ≡ 0 → 8 * length (records_for s commands words) ≡ 48 + 72 * length commands + 8 * all_words s commands
 size_is m s commands words e = omega (arith, length_records s words commands (words_suffice m s (length words) commands (all_fine m s 0 (length words) commands e)))
 
 -- ---- each way to an answer, as the code goes
-pub refused_screen : (m : ℕ) (bytes : List ℕ) (n : ℕ) → screen_of m bytes ≡ screen-answer.Refused n → (first_of (screen_rows m bytes) ≡ n) × (0 < n)
+pub refused_screen : (m : ℕ) (bytes : List ℕ) (r : Named) → screen_of m bytes ≡ Err r → (first_of (screen_rows m bytes) ≡ refusals.number r) × (0 < refusals.number r)
 unfolding screen_of
-refused_screen m bytes n e = chosen (eqb (first_of (screen_rows m bytes)) 0) refl e
-  where
-    chosen : (t : Bool) → eqb (first_of (screen_rows m bytes)) 0 ≡ t → cond t (screen-answer.Accepted (fields_of bytes)) (screen-answer.Refused (first_of (screen_rows m bytes))) ≡ screen-answer.Refused n → (first_of (screen_rows m bytes) ≡ n) × (0 < n)
-    chosen true h f = let z : ◌≡◌ {A = ℕ} 0 1 = cc in absurd (omega arith)
-    chosen false h f =
-        let k : first_of (screen_rows m bytes) ≡ n = cc in
-        (k, above (λ z. eqb-false (first_of (screen_rows m bytes)) 0 h (k ∙ z)))
-      where
-        above : (n ≡ 0 → ⊥) → 0 < n
-        above g = omega arith
+refused_screen m bytes r e = refused_first (screen_rows m bytes) (screen_listed m bytes) (fields_of bytes) r e
+
+-- a refusal that names no place
+abbrev pub at_0 : Named → Refused
+at_0 r = record { refusal = r; place = 0 }
 
 module _ (m : ℕ) (t : Task) (old : List ℕ) where
-  pub told_screen : (n : ℕ) → screen_of m t.screen ≡ screen-answer.Refused n → Told m t old (Refused n 0) old
-  told_screen n e = let p = refused_screen m t.screen n e in task_told m t old n 0 p.1 (by_screen m t n p.1 p.0)
+  pub told_screen : (r : Named) → screen_of m t.screen ≡ Err r → Told m t old (Err (at_0 r)) old
+  told_screen r e = let p = refused_screen m t.screen r e in task_told m t old (at_0 r) (by_screen m t (refusals.number r) p.1 p.0)
 
-  module _ (s : Screen) (a : screen_of m t.screen ≡ screen-answer.Accepted s) (fault : ℕ) (fault-is : fault ≡ first_of (list_rows t.form s t.list)) where
+  module _ (s : Screen) (a : screen_of m t.screen ≡ Ok s) where
     -- the screen is its record's fields
     fields : s ≡ screen_in t
     fields = (read_accepted m t.screen s a).0
@@ -115,54 +114,55 @@ module _ (m : ℕ) (t : Task) (old : List ℕ) where
     rows_pass : first_of (screen_rows m t.screen) ≡ 0
     rows_pass = (read_accepted m t.screen s a).1
 
-    fault_of : fault ≡ first_of (list_rows t.form (screen_in t) t.list)
-    fault_of = fault-is ∙ ap (λ (x : Screen). first_of (list_rows t.form x t.list)) fields
+    rows_of : first_of (list_rows t.form s t.list) ≡ first_of (list_rows t.form (screen_in t) t.list)
+    rows_of = ap (λ (x : Screen). first_of (list_rows t.form x t.list)) fields
 
-    pub told_list : (fault ≡ 0 → ⊥) → Told m t old (Refused fault 0) old
-    told_list h = task_told m t old fault 0 (omega arith) (by_list m t rows_pass fault (omega arith) (sym fault_of))
+    pub told_list : (r : Named) → refusals.number r ≡ first_of (list_rows t.form s t.list) → Told m t old (Err (at_0 r)) old
+    told_list r e = task_told m t old (at_0 r) (by_list m t rows_pass (refusals.number r) (number_positive r) (sym (e ∙ rows_of)))
 
-    module _ (p : Pass) (p-is : p ≡ pass_of m s (length t.words) (commands_in t)) (none-fault : fault ≡ 0) where
+    module _ (p : Result ℕ Refused) (p-is : p ≡ pass_of m s (length t.words) (commands_in t)) (none-fault : first_of (list_rows t.form s t.list) ≡ 0) where
       no_fault : first_of (list_rows t.form (screen_in t) t.list) ≡ 0
-      no_fault = sym fault_of ∙ none-fault
+      no_fault = sym rows_of ∙ none-fault
 
-      pass_of_lem : p ≡ pass_of m (screen_in t) (length t.words) (commands_in t)
-      pass_of_lem = p-is ∙ ap (λ (x : Screen). pass_of m x (length t.words) (commands_in t)) fields
+      pass_of_lem : pass_of m (screen_in t) (length t.words) (commands_in t) ≡ p
+      pass_of_lem = sym (p-is ∙ ap (λ (x : Screen). pass_of m x (length t.words) (commands_in t)) fields)
 
-      refusal_of_lem : first_refusal m (screen_in t) 0 (length t.words) (commands_in t) ≡ record { number = p.number; place = p.place }
-      refusal_of_lem = pass_refusal m (screen_in t) (length t.words) (commands_in t) p pass_of_lem
+      pub told_command : (r : Refused) → p ≡ Err r → Told m t old (Err r) old
+      told_command r e =
+          task_told m t old r
+          (by_command m t rows_pass no_fault (refusals.number r.refusal) r.place (number_positive r.refusal) (pass_refusal m (screen_in t) (length t.words) (commands_in t) r (pass_of_lem ∙ e)))
 
-      pub told_command : (p.number ≡ 0 → ⊥) → Told m t old (Refused p.number p.place) old
-      told_command h = task_told m t old p.number p.place (omega arith) (by_command m t rows_pass no_fault p.number p.place (omega arith) refusal_of_lem)
-
-      module _ (z : p.number ≡ 0) where
+      module _ (used : ℕ) (z : p ≡ Ok used) where
         none_refused : (first_refusal m (screen_in t) 0 (length t.words) (commands_in t)).number ≡ 0
-        none_refused = ap (λ (r : Refusal). r.number) refusal_of_lem ∙ z
+        none_refused = (pass_words m (screen_in t) (length t.words) (commands_in t) used (pass_of_lem ∙ z)).0
 
-        words_are : p.used ≡ all_words (screen_in t) (commands_in t)
-        words_are = pass_words m (screen_in t) (length t.words) (commands_in t) p pass_of_lem z
+        words_are : used ≡ all_words (screen_in t) (commands_in t)
+        words_are = (pass_words m (screen_in t) (length t.words) (commands_in t) used (pass_of_lem ∙ z)).1
 
         -- the last check of the task decides
         end_is : (n : ℕ) → n ≡ first_of (word_rows t) → task_refusal m t ≡ record { number = n; place = 0 }
         end_is n e = by_end m t rows_pass no_fault none_refused ∙ ap (λ (k : ℕ). record { number = k; place = 0 }) (sym e)
 
-        pub told_left : p.used < length t.words → Told m t old (Refused 16 0) old
-        told_left h = task_told m t old 16 0 (lit< tt) (end_is 16 (words_left t (omega (arith, words_are))))
+        pub told_left : used < length t.words → Told m t old (Err (at_0 WordsLeft)) old
+        unfolding refusals.number
+        told_left h = task_told m t old (at_0 WordsLeft) (end_is 16 (words_left t (omega (arith, words_are))))
 
         -- the size as the code has it
-        whole_size : 48 + 72 * (length t.list / t.form) + 8 * p.used ≡ 8 * length (records_in t)
+        whole_size : 48 + 72 * (length t.list / t.form) + 8 * used ≡ 8 * length (records_in t)
         whole_size = omega (arith, size_is m (screen_in t) (commands_in t) t.words none_refused, words_are, length_parts t.form t.list)
 
-        module _ (w : length t.words ≤ p.used) where
+        module _ (w : length t.words ≤ used) where
           -- row 17 decides
           room_is : (n : ℕ) → n ≡ first_of (room_rows t (length old)) → refusal_of m t (length old) ≡ record { number = n; place = 0 }
           room_is n e =
               by_room m t (length old) (ap (λ (r : Refusal). r.number) (end_is 0 (words_fit t (omega (arith, words_are)))))
               ∙ ap (λ (k : ℕ). record { number = k; place = 0 }) (sym e)
 
-          pub told_short : length old < 48 + 72 * (length t.list / t.form) + 8 * p.used → Told m t old (Refused 17 0) old
-          told_short h = refused_told m t old 17 0 (lit< tt) (room_is 17 (room_short t (length old) (omega (arith, whole_size))))
+          pub told_short : length old < 48 + 72 * (length t.list / t.form) + 8 * used → Told m t old (Err (at_0 Room)) old
+          unfolding refusals.number
+          told_short h = refused_told m t old (at_0 Room) (room_is 17 (room_short t (length old) (omega (arith, whole_size))))
 
-          module _ (h : 48 + 72 * (length t.list / t.form) + 8 * p.used ≤ length old) where
+          module _ (h : 48 + 72 * (length t.list / t.form) + 8 * used ≤ length old) where
             -- what the second pass asks, the screen's records being stored
             pub second_asks : (l1 : List ℕ) → l1 ≡ sets old 0 (stream_bytes (screen_records s))
                 → (is_form t.form ≡ true) × (((first_refusal m s 0 (length t.words) (commands_in t)).number ≡ 0) × (48 + 8 * length (draw_records s t.words (commands_in t)) ≤ length l1))
@@ -173,11 +173,11 @@ module _ (m : ℕ) (t : Task) (old : List ℕ) where
                 ((list_says t.form (screen_in t) t.list no_fault).formed, (rw fields none_refused, rw (e, length-sets, fields) r))
 
             pub told_stream : (l1 l2 : List ℕ) → l1 ≡ sets old 0 (stream_bytes (screen_records s)) → l2 ≡ sets l1 48 (stream_bytes (draw_records s t.words (commands_in t)))
-                → Told m t old (Accepted (48 + 72 * (length t.list / t.form) + 8 * p.used) s.depth s.rotation s.flag) l2
+                → Told m t old (Ok (record { length = 48 + 72 * (length t.list / t.form) + 8 * used; depth = s.depth; rotation = s.rotation; flag = s.flag })) l2
             unfolding records_for
             told_stream l1 l2 e f =
                 let g = room_is 0 (room_fits t (length old) (omega (arith, whole_size))) in
                 let d = f ∙ ap (λ (b : List ℕ). sets b 48 (stream_bytes (draw_records s t.words (commands_in t)))) e
                 ∙ sym (stored_both old 0 (screen_records s) (draw_records s t.words (commands_in t)) ∙ (rw (length_screen s))) in
-                subst (λ (x : Screen). Told m t old (Accepted (48 + 72 * (length t.list / t.form) + 8 * p.used) x.depth x.rotation x.flag) l2) (sym fields)
-                (accepted_told m t old (48 + 72 * (length t.list / t.form) + 8 * p.used) l2 (ap (λ (r : Refusal). r.number) g) whole_size h (d ∙ ap (λ (x : Screen). sets old 0 (stream_bytes (screen_records x ++ draw_records x t.words (commands_in t)))) fields))
+                subst (λ (x : Screen). Told m t old (Ok (record { length = 48 + 72 * (length t.list / t.form) + 8 * used; depth = x.depth; rotation = x.rotation; flag = x.flag })) l2) (sym fields)
+                (accepted_told m t old (48 + 72 * (length t.list / t.form) + 8 * used) l2 (ap (λ (r : Refusal). r.number) g) whole_size h (d ∙ ap (λ (x : Screen). sets old 0 (stream_bytes (screen_records x ++ draw_records x t.words (commands_in t)))) fields))

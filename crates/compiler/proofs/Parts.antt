@@ -15,7 +15,9 @@ use Rattle.command.proofs.Forms.{part_ends}
 use Rattle.compiler.specs.Compile.{Compiling, compiling_of}
 use Rattle.compiler.specs.Part.{of_command, part_from, part_size, RefusedPart}
 use Rattle.compiler.specs.declared.Compiled.{Compiled}
-use Rattle.compiler.specs.declared.Compiled.TheVariants.{Accepted, Refused}
+use Rattle.std.specs.Prelude.{Result, Ok, Err}
+use Rattle.refusal.specs.Number as refusals
+use Rattle.refusal.specs.declared.Refused.{Refused}
 
 -- the place of a part is one of the list's, and the part ends in the list
 module _ (size : ℕ) (list : List ℕ) (c : Compiling) where
@@ -31,22 +33,22 @@ module _ (size : ℕ) (list : List ℕ) (c : Compiling) where
       chosen false f = omega arith
 
 -- start and length by the answer
-module _ (size : ℕ) (list : List ℕ) (a : Compiled) where
+module _ (size : ℕ) (list : List ℕ) (a : Result Compiled Refused) where
   abbrev Stands : ℕ → ℕ → Type 0
   Stands at n = (at ≡ part_from size list (compiling_of a)) × (n ≡ part_size size list (compiling_of a))
 
-  pub part_accepted : (n d r f : ℕ) → a ≡ Accepted n d r f → Stands 0 0
+  pub part_accepted : (c : Compiled) → a ≡ Ok c → Stands 0 0
   unfolding part_from part_size compiling_of
-  part_accepted n d r f e = rw e (refl, refl)
+  part_accepted c e = rw e (refl, refl)
 
-  module _ (n i count : ℕ) (named : Bool) (e : a ≡ Refused n i) (h : named ≡ names_command n) (k : count ≡ length list / size) where
+  module _ (r : Refused) (count : ℕ) (named : Bool) (e : a ≡ Err r) (h : named ≡ names_command (refusals.number r.refusal)) (k : count ≡ length list / size) where
     -- no command of the list is named
-    pub part_none : (named && ltb i count) ≡ false → Stands 0 0
+    pub part_none : (named && ltb r.place count) ≡ false → Stands 0 0
     unfolding part_from part_size compiling_of
     part_none f = rw (e, ← h, ← k, f) (refl, refl)
 
     -- the command that is named
-    pub part_some : (named && ltb i count) ≡ true → Stands (i * size) size
+    pub part_some : (named && ltb r.place count) ≡ true → Stands (r.place * size) size
     unfolding part_from part_size compiling_of
     part_some f = rw (e, ← h, ← k, f) (refl, refl)
 

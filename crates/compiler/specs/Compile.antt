@@ -1,5 +1,5 @@
 -- Compiling (01, "Refusal numbers": compiling checks 1 to 11, then 12 to 15 command by command, then 16, 17).
-use Rattle.std.specs.Prelude.{ℕ, ◌*◌, List, [], ◌∷◌, cond, length, ltb, eqb}
+use Rattle.std.specs.Prelude.{ℕ, ◌*◌, List, [], ◌∷◌, cond, length, Result, Ok, Err, ltb, eqb}
 use Rattle.record.specs.Bytes.{over}
 use Rattle.record.specs.Record.{stream_bytes}
 use Rattle.record.specs.Checks.{Row, row, first_of, Refusal}
@@ -7,7 +7,8 @@ use Rattle.screen.specs.declared.Screen.{Screen}
 use Rattle.command.specs.Task.{Task, screen_in, task_refusal, is_accepted}
 use Rattle.compiler.specs.Stream.{records_in}
 use Rattle.compiler.specs.declared.Compiled.{Compiled}
-use Rattle.compiler.specs.declared.Compiled.TheVariants.{Accepted, Refused}
+use Rattle.refusal.specs.Number as refusals
+use Rattle.refusal.specs.declared.Refused.{Refused}
 
 -- row 17: a stream buffer of `room` bytes that is shorter than the stream
 unfoldable pub room_rows : Task → ℕ → List Row
@@ -52,13 +53,13 @@ unfoldable pub buffer_after : ℕ → Task → List ℕ → List ℕ
 buffer_after m t old = buffer_with (compiling m t (length old)) (stream_of t) old
 
 -- 01's numbers of an answer: of a refusal all but number and place are 0
-unfoldable pub compiling_of : Compiled → Compiling
-compiling_of (Accepted n d r f) = record { number = 0; place = 0; length = n; depth = d; rotation = r; flag = f }
-compiling_of (Refused n i) = record { number = n; place = i; length = 0; depth = 0; rotation = 0; flag = 0 }
+unfoldable pub compiling_of : Result Compiled Refused → Compiling
+compiling_of (Ok c) = record { number = 0; place = 0; length = c.length; depth = c.depth; rotation = c.rotation; flag = c.flag }
+compiling_of (Err r) = record { number = refusals.number r.refusal; place = r.place; length = 0; depth = 0; rotation = 0; flag = 0 }
 
 -- the answer with these numbers
-unfoldable pub answer_of : Compiling → Compiled
-answer_of c = cond (eqb c.number 0) (Accepted c.length c.depth c.rotation c.flag) (Refused c.number c.place)
+unfoldable pub answer_of : Compiling → Result Compiled Refused
+answer_of c = refusals.answered_at c.number c.place (record { length = c.length; depth = c.depth; rotation = c.rotation; flag = c.flag })
 
 -- the numbers in 01's order
 unfoldable pub numbers_of : Compiling → List ℕ

@@ -1,9 +1,11 @@
 -- Turning a list into its other form (02, g): "Turn any old list into a new one and back".
-use Rattle.std.specs.Prelude.{ℕ, ◌-◌, List, [], ◌∷◌, ◌++◌, map, Bool, false, not, ◌&&◌, ◌||◌, cond, length, take, drop, replicate, ltb, eqb}
+use Rattle.std.specs.Prelude.{Result, Ok, Err, ℕ, ◌-◌, List, [], ◌∷◌, ◌++◌, map, Bool, false, not, ◌&&◌, ◌||◌, cond, length, take, drop, replicate, ltb, eqb}
 use Rattle.record.specs.Bytes.{byte_at, all_zero, over}
 use Rattle.record.specs.Lists.{parts_of}
 use Rattle.record.specs.Checks.{Row, row, first_of}
 use Rattle.command.specs.Task.{short_form, is_list}
+use Rattle.refusal.specs.Number as refusals
+use Rattle.refusal.specs.declared.Refusal.{Refusal}
 use Rattle.form.specs.declared.Turned.{Turned}
 
 -- a record in a form: its first 32 bytes and, in the long form, 16 zeros behind them
@@ -45,3 +47,8 @@ turning from to list room =
 unfoldable pub turned_into : ℕ → ℕ → List ℕ → List ℕ → List ℕ
 turned_into from to list old =
     cond (eqb (turning from to list (length old)).number 0) (over (turned_list from to list) old) old
+
+-- the numbers of an answer, which is the turned list's length or a refusal
+unfoldable pub turned_of : Result ℕ Refusal → Turned
+turned_of (Ok n) = record { number = 0; length = n }
+turned_of (Err r) = record { number = refusals.number r; length = 0 }

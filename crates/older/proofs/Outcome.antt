@@ -15,15 +15,18 @@ use Rattle.record.proofs.Checks.{passed, parts}
 use Rattle.record.proofs.Stores.{length_stream}
 use Rattle.screen.specs.Screen.{screen_rows, screen_of}
 use Rattle.screen.specs.declared.Screen.{Screen}
-use Rattle.screen.specs.declared.ScreenAnswer.TheVariants as screen-answer
 use Rattle.screen.proofs.Read.{screen_numbered, read_accepted}
 use Rattle.command.specs.Task.{Task, screen_in}
 use Rattle.compiler.specs.Stream.{records_with}
 use Rattle.compiler.specs.Compile.{answered, compiling_of, answer_of}
 use Rattle.compiler.specs.declared.Compiled.{Compiled}
-use Rattle.compiler.specs.declared.Compiled.TheVariants.{Accepted, Refused}
+use Rattle.std.specs.Prelude.{Result, Ok, Err}
+use Rattle.refusal.specs.Number as refusals
+use Rattle.refusal.specs.declared.Refusal.{Refusal}
+use Rattle.refusal.specs.declared.Refused.{Refused}
+use Rattle.refusal.proofs.Numbers.{number_positive}
 use Rattle.compiler.proofs.Answered.{ToldBy, answered_number, answered_place, answered_accepted, refused_by_lem, accepted_by}
-use Rattle.compiler.proofs.Outcome.{refused_screen}
+use Rattle.compiler.proofs.Outcome.{refused_screen, at_0}
 use Rattle.older.specs.Bytes.{older_memory, older_bytes}
 use Rattle.older.specs.Compile.{older_records, lent_rows, older_rows, older_refusal, older_compiling, older_buffer}
 
@@ -84,38 +87,38 @@ module _ (t : Task) (room : ℕ) where
   has_room e = room_says t room (sym (by_lent t room (screen_accepted e)) ∙ (sym number_is ∙ e))
 
 -- ---- each way to an answer, as the code goes
-abbrev pub Told : Task → List ℕ → Compiled → List ℕ → Type 0
+abbrev pub Told : Task → List ℕ → Result Compiled Refused → List ℕ → Type 0
 Told t old r new = (compiling_of r ≡ older_compiling t (length old)) × ((r ≡ answer_of (older_compiling t (length old))) × (new ≡ older_buffer t old))
 
 module _ (t : Task) (old : List ℕ) where
-  refused_told : (n : ℕ) → 0 < n → first_of (older_rows t (length old)) ≡ n → Told t old (Refused n 0) old
+  refused_told : (r : Refusal) → first_of (older_rows t (length old)) ≡ refusals.number r → Told t old (Err (at_0 r)) old
   unfolding older_compiling older_buffer
-  refused_told n h e =
-      refused_by_lem (older_refusal t (length old)) (screen_in t) (8 * length (older_records (screen_in t))) (stream_bytes (older_records (screen_in t))) old n 0 h
+  refused_told r e =
+      refused_by_lem (older_refusal t (length old)) (screen_in t) (8 * length (older_records (screen_in t))) (stream_bytes (older_records (screen_in t))) old (at_0 r)
       (ap (λ (k : ℕ). record { number = k; place = 0 }) e)
 
-  pub told_screen : (n : ℕ) → screen_of older_memory t.screen ≡ screen-answer.Refused n → Told t old (Refused n 0) old
-  told_screen n e = let p = refused_screen older_memory t.screen n e in refused_told n p.1 (by_screen t (length old) n p.1 p.0)
+  pub told_screen : (r : Refusal) → screen_of older_memory t.screen ≡ Err r → Told t old (Err (at_0 r)) old
+  told_screen r e = let p = refused_screen older_memory t.screen r e in refused_told r (by_screen t (length old) (refusals.number r) p.1 p.0)
 
-  module _ (s : Screen) (a : screen_of older_memory t.screen ≡ screen-answer.Accepted s) (fault : ℕ) (fault-is : fault ≡ first_of (lent_rows t (length old))) where
-    first_is : first_of (older_rows t (length old)) ≡ fault
-    first_is = by_lent t (length old) (read_accepted older_memory t.screen s a).1 ∙ sym fault-is
+  module _ (s : Screen) (a : screen_of older_memory t.screen ≡ Ok s) where
+    first_is : first_of (older_rows t (length old)) ≡ first_of (lent_rows t (length old))
+    first_is = by_lent t (length old) (read_accepted older_memory t.screen s a).1
 
-    pub told_lent : (fault ≡ 0 → ⊥) → Told t old (Refused fault 0) old
-    told_lent h = refused_told fault (omega arith) first_is
+    pub told_lent : (r : Refusal) → refusals.number r ≡ first_of (lent_rows t (length old)) → Told t old (Err (at_0 r)) old
+    told_lent r e = refused_told r (first_is ∙ sym e)
 
-    module _ (none-fault : fault ≡ 0) where
+    module _ (none-fault : first_of (lent_rows t (length old)) ≡ 0) where
       pub room : 144 ≤ length old
-      room = room_says t (length old) (sym fault-is ∙ none-fault)
+      room = room_says t (length old) none-fault
 
-      pub told_stream : (new : List ℕ) → new ≡ sets old 0 (stream_bytes (older_records s)) → Told t old (Accepted 144 s.depth s.rotation s.flag) new
+      pub told_stream : (new : List ℕ) → new ≡ sets old 0 (stream_bytes (older_records s)) → Told t old (Ok (record { length = 144; depth = s.depth; rotation = s.rotation; flag = s.flag })) new
       unfolding older_compiling older_buffer
       told_stream new e =
           let f : s ≡ screen_in t = (read_accepted older_memory t.screen s a).0 in
           let stream = stream_bytes (older_records (screen_in t)) in
           let fits : length stream ≤ length old = omega (arith, length_stream (older_records (screen_in t)), eighteen (screen_in t), room) in
           let stored : new ≡ sets old 0 stream = e ∙ ap (λ (x : Screen). sets old 0 (stream_bytes (older_records x))) f in
-          subst (λ (x : Screen). Told t old (Accepted 144 x.depth x.rotation x.flag) new) (sym f)
-          (subst (λ (n : ℕ). ToldBy (answered (older_refusal t (length old)) (screen_in t) (8 * n)) stream old (Accepted 144 (screen_in t).depth (screen_in t).rotation (screen_in t).flag) new)
+          subst (λ (x : Screen). Told t old (Ok (record { length = 144; depth = x.depth; rotation = x.rotation; flag = x.flag })) new) (sym f)
+          (subst (λ (n : ℕ). ToldBy (answered (older_refusal t (length old)) (screen_in t) (8 * n)) stream old (Ok (record { length = 144; depth = (screen_in t).depth; rotation = (screen_in t).rotation; flag = (screen_in t).flag })) new)
           (sym (eighteen (screen_in t)))
           (accepted_by (older_refusal t (length old)) (screen_in t) 144 stream old (first_is ∙ none-fault) fits new stored))

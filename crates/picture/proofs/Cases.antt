@@ -13,7 +13,9 @@ use Rattle.view.specs.Walk.{walk, in_window_by, corner_p, corner_q, place_of}
 use Rattle.reader.specs.Read.{read_rows, read_at, refused_point, reading}
 use Rattle.reader.specs.Line.{leftmost, line_number, line_after}
 use Rattle.reader.specs.declared.Display.{Display}
-use Rattle.reader.specs.declared.PointAnswer.TheVariants.{Shown, Refused}
+use Rattle.std.specs.Prelude.{Ok, Err}
+use Rattle.refusal.specs.Number as refusals
+use Rattle.refusal.specs.declared.Refusal.TheVariants.{Point as PanelPoint}
 use Rattle.text.specs.Text.{letters, last_decimal_digits, decimal}
 use Rattle.text.specs.Refusal.{reason, refusal_line}
 use Rattle.text.specs.Lines.{point_line}
@@ -57,12 +59,12 @@ unfolding colours pixel_size
 cut_line = refl
 
 -- a point that is shown, and one outside the panel
-shown_line : answer_line (Shown 15 38399 3) ≡ letters "colour 15 address 38399 bit 3\n"
+shown_line : answer_line (Ok (record { colour = 15; address = 38399; bit = 3 })) ≡ letters "colour 15 address 38399 bit 3\n"
 unfolding answer_line point_line decimal last_decimal_digits
 shown_line = refl
 
-refused_line : answer_line (Refused 24) ≡ letters "refused 24 0: panel point outside the panel\n"
-unfolding answer_line refusal_line reason decimal last_decimal_digits
+refused_line : answer_line (Err PanelPoint) ≡ letters "refused 24 0: panel point outside the panel\n"
+unfolding answer_line refusal_line reason decimal last_decimal_digits refusals.number
 refused_line = refl
 
 -- ---- lines of a panel of 8 × 2 points, from dword 0 on

@@ -1,12 +1,13 @@
 -- The panel as a picture, in the portable formats: one byte for a point at depths 1 to 8, red, green and blue at depth 16. And one point
 -- of it as a line of text.
-use Rattle.std.specs.Prelude.{ℕ, ◌+◌, ◌-◌, ◌*◌, ◌/◌, ◌%◌, ◌^◌, min, List, [], ◌∷◌, ◌++◌, cond, eqb, get_or, replicate}
+use Rattle.std.specs.Prelude.{Result, Ok, Err, ℕ, ◌+◌, ◌-◌, ◌*◌, ◌/◌, ◌%◌, ◌^◌, min, List, [], ◌∷◌, ◌++◌, cond, eqb, get_or, replicate}
 use Rattle.screen.specs.Screen.{memory_size}
 use Rattle.screen.specs.declared.ScreenValues.{ScreenValues}
 use Rattle.reader.specs.Line.{line_after}
 use Rattle.reader.specs.declared.Display.{Display}
-use Rattle.reader.specs.declared.PointAnswer.{PointAnswer}
-use Rattle.reader.specs.declared.PointAnswer.TheVariants.{Shown, Refused}
+use Rattle.refusal.specs.Number.{number}
+use Rattle.refusal.specs.declared.Refusal.{Refusal}
+use Rattle.reader.specs.declared.Point.{Point}
 use Rattle.text.specs.Text.{letters, decimal}
 use Rattle.text.specs.Refusal.{refusal_line}
 use Rattle.text.specs.Lines.{point_line}
@@ -54,6 +55,6 @@ abbrev pub pixels_in : Display → ℕ → ℕ
 pixels_in d room = min d.width (room / pixel_size d.depth)
 
 -- the line of the point reader's answer: the point's, or its refusal's, whose place is 0
-unfoldable pub answer_line : PointAnswer → List ℕ
-answer_line (Shown colour address bit) = point_line colour address bit
-answer_line (Refused n) = refusal_line n 0
+unfoldable pub answer_line : Result Point Refusal → List ℕ
+answer_line (Ok p) = point_line p.colour p.address p.bit
+answer_line (Err r) = refusal_line (number r) 0

@@ -19,12 +19,16 @@ use Rattle.screen.specs.declared.ScreenValues.{ScreenValues}
 use Rattle.view.specs.declared.Place.{Place}
 use Rattle.view.proofs.Reaches.{low_place}
 use Rattle.reader.specs.Read.{Reading, looked_at, dword_inside, read_rows, address_at, bit_at, read_at, refused_point, reading, reading_of, answer_of, Stands, Standing}
-use Rattle.reader.specs.Looking.{looking, seen, Seeable, look_number}
+use Rattle.reader.specs.Looking.{looking, seen, Seeable}
 use Rattle.reader.specs.declared.Display.{Display}
-use Rattle.reader.specs.declared.Look.{Look}
-use Rattle.reader.specs.declared.Look.TheVariants.{At, Nowhere}
-use Rattle.reader.specs.declared.PointAnswer.{PointAnswer}
-use Rattle.reader.specs.declared.PointAnswer.TheVariants.{Shown, Refused}
+use Rattle.reader.specs.declared.Spot.{Spot}
+use Rattle.reader.specs.declared.Point.{Point}
+use Rattle.std.specs.Prelude.{Result, Ok, Err}
+use Rattle.refusal.specs.Number as refusals
+use Rattle.refusal.specs.Number.{number, refusal, number_of}
+use Rattle.refusal.specs.declared.Refusal.{Refusal}
+use Rattle.refusal.specs.declared.Refusal.TheVariants.{Address}
+use Rattle.refusal.proofs.Numbers.{Listed, accepted, refused_with, number_positive, first_listed, number_answered}
 
 -- what a place or a refusal gives: its number and its place; and the numbers of its answer are its own
 module _ (n depth : ℕ) (memory : List ℕ) (w : Place) where
@@ -38,20 +42,25 @@ module _ (n depth : ℕ) (memory : List ℕ) (w : Place) where
   place_by_lem true = refl
   place_by_lem false = refl
 
-  back : (t : Bool) → eqb n 0 ≡ t → reading_of (answer_of (cond t (read_at depth memory w) (refused_point n))) ≡ cond t (read_at depth memory w) (refused_point n)
-  unfolding read_at refused_point reading_of answer_of
-  back true e = refl
-  back false e = rw e refl
+  back : (t : Bool) → eqb n 0 ≡ t → (0 < n → number (refusal n) ≡ n) → reading_of (answer_of (cond t (read_at depth memory w) (refused_point n))) ≡ cond t (read_at depth memory w) (refused_point n)
+  unfolding read_at refused_point reading_of answer_of refusals.answered
+  back true e f = refl
+  back false e f = let d = eqb-false n 0 e in rw e (ap (λ (k : ℕ). record { number = k; place = 0; colour = 0; address = 0; bit = 0 }) (f (omega (arith, d))))
 
 -- a refusal whose numbers are a reading's is the reading's answer
-pub refused_answer : (n : ℕ) (x : Reading) → 0 < n → refused_point n ≡ x → (reading_of (Refused n) ≡ x) × (Refused n ≡ answer_of x)
+pub refused_answer : (r : Refusal) (x : Reading) → refused_point (number r) ≡ x → (reading_of (Err r) ≡ x) × (Err r ≡ answer_of x)
 unfolding refused_point reading_of answer_of
-refused_answer n x h e = (e, rw (← e) (rw (ne_eqb n 0 (λ z. omega arith)) refl))
+refused_answer r x e = (e, rw (← e) (sym (refused_with _ r (number r) refl)))
 
 -- 0 is the number of no row
 pub numbered : (m : ℕ) (d : Display) (v : ScreenValues) (p q n : ℕ) → Numbered (read_rows m d v p q n)
 unfolding read_rows Numbered
 numbered m d v p q n = (lit< tt, (lit< tt, (lit< tt, (lit< tt, (lit< tt, (lit< tt, (lit< tt, (lit< tt, (lit< tt, tt)))))))))
+
+-- every row's number is a refusal's
+pub listed : (m : ℕ) (d : Display) (v : ScreenValues) (p q n : ℕ) → Listed (read_rows m d v p q n)
+unfolding read_rows Listed number refusal
+listed m d v p q n = (refl, (refl, (refl, (refl, (refl, (refl, (refl, (refl, (refl, tt)))))))))
 
 module _ (m : ℕ) (d : Display) (v : ScreenValues) (p q : ℕ) (memory : List ℕ) where
   abbrev first : ℕ
@@ -60,7 +69,7 @@ module _ (m : ℕ) (d : Display) (v : ScreenValues) (p q : ℕ) (memory : List �
   -- the numbers of the answer are those of the reading
   answer_back : reading_of (answer_of (reading m d v p q memory)) ≡ reading m d v p q memory
   unfolding reading
-  answer_back = back first d.depth memory (looked_at d v p q) (eqb first 0) refl
+  answer_back = back first d.depth memory (looked_at d v p q) (eqb first 0) refl (first_listed _ (listed m d v p q (length memory)))
 
   -- its number is the first of the table's, and its place is 0
   pub number_is : (reading m d v p q memory).number ≡ first
@@ -72,7 +81,7 @@ module _ (m : ℕ) (d : Display) (v : ScreenValues) (p q : ℕ) (memory : List �
   place_is = place_by_lem first d.depth memory (looked_at d v p q) (eqb first 0)
 
   -- both of an answer that is the reading's
-  pub answered : (a : PointAnswer) → a ≡ answer_of (reading m d v p q memory) → (reading_of a ≡ reading m d v p q memory) × (a ≡ answer_of (reading m d v p q memory))
+  pub answered : (a : Result Point Refusal) → a ≡ answer_of (reading m d v p q memory) → (reading_of a ≡ reading m d v p q memory) × (a ≡ answer_of (reading m d v p q memory))
   answered a e = (ap reading_of e ∙ answer_back, e)
 
   -- refused by the first number
@@ -99,21 +108,16 @@ pub record Given (m : ℕ) (d : Display) (v : ScreenValues) (n : ℕ) : Type 0 w
   pub rotation : d.rotation < 4
   pub fit : values_fit v ≡ true
 
-look_by : (depth : ℕ) (w : Place) (k : ℕ) (t : Bool) → eqb k 0 ≡ t → look_number (cond t (At (address_at depth w) (bit_at depth w)) (Nowhere k)) ≡ k
-unfolding look_number
-look_by depth w k true e = sym (eqb-true k 0 e)
-look_by depth w k false e = refl
-
 module _ (m : ℕ) (d : Display) (v : ScreenValues) (p q n : ℕ) where
   -- refused by the first number
-  refuses : (k : ℕ) → 0 < k → k ≡ first_of (read_rows m d v p q n) → Nowhere k ≡ looking m d v p q n
+  refuses : (r : Refusal) → number r ≡ first_of (read_rows m d v p q n) → Err r ≡ looking m d v p q n
   unfolding looking
-  refuses k h e = rw (← e) (rw (ne_eqb k 0 (λ z. omega arith)) refl)
+  refuses r e = sym (refused_with _ r _ e)
 
   -- the number of the look is the table's
-  pub look_number_lem : look_number (looking m d v p q n) ≡ first_of (read_rows m d v p q n)
+  pub look_number_lem : number_of (looking m d v p q n) ≡ first_of (read_rows m d v p q n)
   unfolding looking
-  look_number_lem = look_by d.depth (looked_at d v p q) (first_of (read_rows m d v p q n)) (eqb (first_of (read_rows m d v p q n)) 0) refl
+  look_number_lem = number_answered _ (read_rows m d v p q n) (listed m d v p q n)
 
   -- one of the first eight fails: its number is the table's
   eight_refuse : (k : ℕ) → 0 < k → k ≡ first_of (take 8 (read_rows m d v p q n)) → k ≡ first_of (read_rows m d v p q n)
@@ -134,8 +138,8 @@ module _ (m : ℕ) (d : Display) (v : ScreenValues) (p q n : ℕ) where
           let some : 0 < first = omega (arith, eqb-false first 0 e) in
           absurd (omega (arith, eight_refuse first some refl))
 
-  pub given_refused : (k : ℕ) → 0 < k → k ≡ first_of (take 8 (read_rows m d v p q n)) → Nowhere k ≡ looking m d v p q n
-  given_refused k h e = refuses k h (eight_refuse k h e)
+  pub given_refused : (r : Refusal) → number r ≡ first_of (take 8 (read_rows m d v p q n)) → Err r ≡ looking m d v p q n
+  given_refused r e = refuses r (eight_refuse (number r) (number_positive r) e)
 
   -- all of them pass
   module _ (none-fails : first_of (take 8 (read_rows m d v p q n)) ≡ 0) where
@@ -163,13 +167,14 @@ module _ (m : ℕ) (d : Display) (v : ScreenValues) (p q n : ℕ) where
       pub low_pixel : w.pixel < per_dword d.depth
       low_pixel = rw e (low_place d.depth d.rotation d.flag v p q (per_dword_pos d.depth given.depth) given.rotation)
 
-      pub outside : not (dword_inside m w) ≡ true → Nowhere 25 ≡ looking m d v p q n
-      outside h = refuses 25 (lit< tt) (last true (rw e at h))
+      pub outside : not (dword_inside m w) ≡ true → Err Address ≡ looking m d v p q n
+      unfolding number
+      outside h = refuses Address (last true (rw e at h))
 
-      pub inside : not (dword_inside m w) ≡ false → (a b : ℕ) → a ≡ address_at d.depth w → b ≡ bit_at d.depth w → At a b ≡ looking m d v p q n
+      pub inside : not (dword_inside m w) ≡ false → (a b : ℕ) → a ≡ address_at d.depth w → b ≡ bit_at d.depth w → Ok (record { address = a; bit = b }) ≡ looking m d v p q n
       unfolding looking
       inside h a b ha hb =
-          (λ i. At (ha i) (hb i)) ∙ ap (λ (x : Place). At (address_at d.depth x) (bit_at d.depth x)) e ∙ rw (← last false (rw e at h)) refl
+          (λ i. Ok (record { address = ha i; bit = hb i })) ∙ ap (λ (x : Place). Ok (record { address = address_at d.depth x; bit = bit_at d.depth x })) e ∙ sym (accepted _ _ (sym (last false (rw e at h))))
 
 -- ---- an accepted reading says where its bits stand
 module _ (m : ℕ) (d : Display) (v : ScreenValues) (p q : ℕ) (memory : List ℕ) (f : first_of (read_rows m d v p q (length memory)) ≡ 0) where
@@ -197,12 +202,12 @@ standing m d v p q memory e =
 module _ (m : ℕ) (d : Display) (v : ScreenValues) (p q : ℕ) (memory : List ℕ) where
   -- it is the reading's answer
   seen_by : (k : ℕ) (t : Bool) → eqb k 0 ≡ t
-      → seen d.depth memory (cond t (At (address_at d.depth (looked_at d v p q)) (bit_at d.depth (looked_at d v p q))) (Nowhere k))
+      → seen d.depth memory (refusals.answered k (record { address = address_at d.depth (looked_at d v p q); bit = bit_at d.depth (looked_at d v p q) }))
       ≡ answer_of (cond t (read_at d.depth memory (looked_at d v p q)) (refused_point k))
-  unfolding read_at refused_point answer_of seen
+  unfolding read_at refused_point answer_of seen refusals.answered
   seen_by k true e =
       let w = looked_at d v p q in
-      ap (λ (c : ℕ). Shown c (address_at d.depth w) (bit_at d.depth w)) (sym (stored_pixel_lem d.depth memory (w.up - w.down) w.pixel))
+      rw e (ap (λ (c : ℕ). Ok (record { colour = c; address = address_at d.depth w; bit = bit_at d.depth w })) (sym (stored_pixel_lem d.depth memory (w.up - w.down) w.pixel)))
   seen_by k false e = rw e refl
 
   seen_is : seen d.depth memory (looking m d v p q (length memory)) ≡ answer_of (reading m d v p q memory)
@@ -212,13 +217,13 @@ module _ (m : ℕ) (d : Display) (v : ScreenValues) (p q : ℕ) (memory : List �
   -- the memory has it
   seeable_by : (k : ℕ) (t : Bool) → eqb k 0 ≡ t → (k ≡ 0 → Stands m d.depth memory (read_at d.depth memory (looked_at d v p q)))
       → (k ≡ 0 → is_depth d.depth ≡ true) → (k ≡ 0 → length memory ≡ m)
-      → Seeable d.depth memory (cond t (At (address_at d.depth (looked_at d v p q)) (bit_at d.depth (looked_at d v p q))) (Nowhere k))
-  unfolding read_at Seeable
+      → Seeable d.depth memory (refusals.answered k (record { address = address_at d.depth (looked_at d v p q); bit = bit_at d.depth (looked_at d v p q) }))
+  unfolding read_at Seeable refusals.answered
   seeable_by k true e stands deep sized =
       let none = eqb-true k 0 e in
       let room = bit_room d.depth (looked_at d v p q).pixel (deep none) in
-      (deep none, omega (arith, (stands none).inside, sized none), room.0, room.1)
-  seeable_by k false e stands deep sized = tt
+      rw e (deep none, omega (arith, (stands none).inside, sized none), room.0, room.1)
+  seeable_by k false e stands deep sized = rw e tt
 
   seeable : Seeable d.depth memory (looking m d v p q (length memory))
   unfolding read_rows AllPass looking
@@ -230,29 +235,29 @@ module _ (m : ℕ) (d : Display) (v : ScreenValues) (p q : ℕ) (memory : List �
       (λ f. eqb-true (length memory) m (not-false _ (past f).0))
 
   -- the same of a look that is known by an equation
-  module _ (at : Look) (e : at ≡ looking m d v p q (length memory)) where
+  module _ (at : Result Spot Refusal) (e : at ≡ looking m d v p q (length memory)) where
     pub seeable_looked : Seeable d.depth memory at
     seeable_looked = subst (Seeable d.depth memory) (sym e) seeable
 
-    pub seen_looked : (r : PointAnswer) → r ≡ seen d.depth memory at → r ≡ answer_of (reading m d v p q memory)
+    pub seen_looked : (r : Result Point Refusal) → r ≡ seen d.depth memory at → r ≡ answer_of (reading m d v p q memory)
     seen_looked r f = f ∙ ap (seen d.depth memory) e ∙ seen_is
 
-    pub read_looked : (r : PointAnswer) → r ≡ seen d.depth memory at → reading_of r ≡ reading m d v p q memory
+    pub read_looked : (r : Result Point Refusal) → r ≡ seen d.depth memory at → reading_of r ≡ reading m d v p q memory
     read_looked r f = (answered m d v p q memory r (seen_looked r f)).0
 
 -- by which of the two it is
-module _ (depth : ℕ) (memory : List ℕ) (at : Look) where
-  pub seeable_at : (a b : ℕ) → at ≡ At a b → Seeable depth memory at → (is_depth depth ≡ true) × (a + max 1 (depth / 8) ≤ length memory) × (b ≤ 7) × (min depth 8 ≤ b + 1)
+module _ (depth : ℕ) (memory : List ℕ) (at : Result Spot Refusal) where
+  pub seeable_at : (s : Spot) → at ≡ Ok s → Seeable depth memory at → (is_depth depth ≡ true) × (s.address + max 1 (depth / 8) ≤ length memory) × (s.bit ≤ 7) × (min depth 8 ≤ s.bit + 1)
   unfolding Seeable
-  seeable_at a b e f = subst (Seeable depth memory) e f
+  seeable_at s e f = subst (Seeable depth memory) e f
 
-  pub seen_at : (a b c : ℕ) → at ≡ At a b → c ≡ stored_pixel depth memory a b → Shown c a b ≡ seen depth memory at
+  pub seen_at : (s : Spot) (c : ℕ) → at ≡ Ok s → c ≡ stored_pixel depth memory s.address s.bit → Ok (record { colour = c; address = s.address; bit = s.bit }) ≡ seen depth memory at
   unfolding seen
-  seen_at a b c e f = ap (λ (x : ℕ). Shown x a b) f ∙ ap (seen depth memory) (sym e)
+  seen_at s c e f = ap (λ (x : ℕ). Ok (record { colour = x; address = s.address; bit = s.bit })) f ∙ ap (seen depth memory) (sym e)
 
-  pub seen_nowhere : (k : ℕ) → at ≡ Nowhere k → Refused k ≡ seen depth memory at
+  pub seen_nowhere : (r : Refusal) → at ≡ Err r → Err r ≡ seen depth memory at
   unfolding seen
-  seen_nowhere k e = ap (seen depth memory) (sym e)
+  seen_nowhere r e = ap (seen depth memory) (sym e)
 
 -- no reading's address, a refusal's 0 among them, lies past the memory's end
 within_by : (m n depth : ℕ) (memory : List ℕ) (w : Place) (t : Bool) → eqb n 0 ≡ t → (n ≡ 0 → address_at depth w ≤ m) → (cond t (read_at depth memory w) (refused_point n)).address ≤ m

@@ -16,7 +16,9 @@ use Rattle.reader.specs.Read.{read_rows, read_at, refused_point, reading, readin
 use Rattle.reader.specs.Line.{leftmost, line_number, line_after, point_rows, line_rows}
 use Rattle.reader.specs.Along.{all_inside, colours_from}
 use Rattle.reader.specs.declared.Display.{Display}
-use Rattle.reader.specs.declared.PointAnswer.TheVariants.{Shown, Refused}
+use Rattle.std.specs.Prelude.{Ok, Err}
+use Rattle.refusal.specs.Number as refusals
+use Rattle.refusal.specs.declared.Refusal.TheVariants.{Point as PanelPoint}
 
 abbrev display : ℕ → ℕ → ℕ → ℕ → ℕ → Display
 display depth rotation flag width height = record { depth = depth; rotation = rotation; flag = flag; width = width; height = height }
@@ -100,11 +102,11 @@ turned = (refl, refl, refl)
 
 -- all other numbers of a refusal are 0; and the answers with such numbers
 pub answers : (reading 16 (display 8 0 0 8 2) (values 0) 8 0 memory ≡ record { number = 24; place = 0; colour = 0; address = 0; bit = 0 })
-    × (answer_of (reading 16 (display 8 0 0 8 2) (values 0) 8 0 memory) ≡ Refused 24)
-    × (answer_of (reading 16 (display 8 0 0 8 2) (values 0) 1 0 memory) ≡ Shown 0x11 1 7)
-    × (reading_of (Refused 24) ≡ record { number = 24; place = 0; colour = 0; address = 0; bit = 0 })
-    × (reading_of (Shown 0x11 1 7) ≡ record { number = 0; place = 0; colour = 0x11; address = 1; bit = 7 })
-unfolding first_of is_depth get_pixel dword_pixel pixel_bit panel_ok view_width whole_dwords values_fit walk in_window_by corner_p corner_q place_of read_rows read_at refused_point reading reading_of answer_of
+    × (answer_of (reading 16 (display 8 0 0 8 2) (values 0) 8 0 memory) ≡ Err PanelPoint)
+    × (answer_of (reading 16 (display 8 0 0 8 2) (values 0) 1 0 memory) ≡ Ok (record { colour = 0x11; address = 1; bit = 7 }))
+    × (reading_of (Err PanelPoint) ≡ record { number = 24; place = 0; colour = 0; address = 0; bit = 0 })
+    × (reading_of (Ok (record { colour = 0x11; address = 1; bit = 7 })) ≡ record { number = 0; place = 0; colour = 0x11; address = 1; bit = 7 })
+unfolding first_of is_depth get_pixel dword_pixel pixel_bit panel_ok view_width whole_dwords values_fit walk in_window_by corner_p corner_q place_of read_rows read_at refused_point reading reading_of answer_of refusals.answered refusals.number refusals.refusal
 answers = (refl, refl, refl, refl, refl)
 
 -- ---- panel lines

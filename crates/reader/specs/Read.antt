@@ -1,6 +1,6 @@
 -- The point reader (01, "Refusal numbers": it is given depth, rotation, flag, panel size, the six screen register values,
 -- a panel point and the memory, and checks 18, 1, 2, 3, 4, 5, 21, 24, 25), which says where it looked (02, e).
-use Rattle.std.specs.Prelude.{ℕ, ◌+◌, ◌-◌, ◌/◌, ◌≤◌, max, ◌≡◌, List, [], ◌∷◌, Bool, ◌&&◌, not, cond, length, leb, ltb, eqb}
+use Rattle.std.specs.Prelude.{ℕ, ◌+◌, ◌-◌, ◌/◌, ◌≤◌, max, ◌≡◌, List, [], ◌∷◌, Bool, ◌&&◌, not, cond, length, Result, Ok, Err, leb, ltb, eqb}
 use Rattle.record.specs.Checks.{Row, row, first_of}
 use Rattle.pixel.specs.Depth.{is_depth}
 use Rattle.pixel.specs.Pixel.{pixel_byte, dword_pixel, pixel_bit, stored_pixel}
@@ -11,8 +11,9 @@ use Rattle.screen.specs.declared.ScreenValues.{ScreenValues}
 use Rattle.view.specs.Walk.{place_of}
 use Rattle.view.specs.declared.Place.{Place}
 use Rattle.reader.specs.declared.Display.{Display}
-use Rattle.reader.specs.declared.PointAnswer.{PointAnswer}
-use Rattle.reader.specs.declared.PointAnswer.TheVariants.{Shown, Refused}
+use Rattle.reader.specs.declared.Point.{Point}
+use Rattle.refusal.specs.Number as refusals
+use Rattle.refusal.specs.declared.Refusal.{Refusal}
 
 -- what a screen sets the panel to
 unfoldable pub display_of : Screen → Display
@@ -74,13 +75,13 @@ reading m d values p q memory =
     cond (eqb n 0) (read_at d.depth memory (looked_at d values p q)) (refused_point n)
 
 -- the numbers of an answer
-unfoldable pub reading_of : PointAnswer → Reading
-reading_of (Shown c a b) = record { number = 0; place = 0; colour = c; address = a; bit = b }
-reading_of (Refused n) = record { number = n; place = 0; colour = 0; address = 0; bit = 0 }
+unfoldable pub reading_of : Result Point Refusal → Reading
+reading_of (Ok p) = record { number = 0; place = 0; colour = p.colour; address = p.address; bit = p.bit }
+reading_of (Err r) = record { number = refusals.number r; place = 0; colour = 0; address = 0; bit = 0 }
 
 -- the answer with these numbers
-unfoldable pub answer_of : Reading → PointAnswer
-answer_of r = cond (eqb r.number 0) (Shown r.colour r.address r.bit) (Refused r.number)
+unfoldable pub answer_of : Reading → Result Point Refusal
+answer_of r = refusals.answered r.number (record { colour = r.colour; address = r.address; bit = r.bit })
 
 -- ---- what is claimed of every reading that is accepted, whatever the register values: its bits of memory, from that bit of that byte on,
 -- are the colour, and they lie in the memory

@@ -11,16 +11,17 @@ pub struct Display {
     pub height: u32,
 }
 
-// Where the reader looks: the address of the pixel's byte, and the place of its highest bit there; or a refusal number.
+// Where the reader looks: the address of the pixel's byte, and the place of its highest bit there.
 #[derive(Clone, Copy)]
-pub enum Look {
-    At(u64, u32),
-    Nowhere(u32),
+pub struct Spot {
+    pub address: u64,
+    pub bit: u32,
 }
 
-// The pixel's colour, its byte's address, and the place of its highest bit in that byte; or a refusal number.
+// What a panel point shows: the pixel's colour, its byte's address, and the place of its highest bit in that byte.
 #[derive(Clone, Copy)]
-pub enum PointAnswer {
-    Shown(u16, u64, u32),
-    Refused(u32),
+pub struct Point {
+    pub colour: u16,
+    pub address: u64,
+    pub bit: u32,
 }

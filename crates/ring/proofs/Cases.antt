@@ -9,7 +9,9 @@ use Rattle.ring.specs.Samples.{Sample, is_taken, taken_after, accepted, newest_o
 use Rattle.ring.specs.Kept.{empty_ring, takes, hours_on, blanked, with_sample, taking, slot_hour, hour_in, telling_of, hour_of, ring_after, heights_of, ring_in, cells_of}
 use Rattle.ring.specs.Claims.{is_none}
 use Rattle.ring.specs.declared.Ring.{Ring}
-use Rattle.ring.specs.declared.Hour.TheVariants.{Sample as Held, Blank, Refused}
+use Rattle.std.specs.Prelude.{None, Some, Ok, Err}
+use Rattle.refusal.specs.Number as refusals
+use Rattle.refusal.specs.declared.Refusal.TheVariants.{WearRange}
 use Rattle.ring.proofs.Tells.{ring_tells}
 
 abbrev at : ℕ → ℕ → Sample
@@ -165,9 +167,9 @@ odd_told = refl
 
 -- ---- answers, and the ring of a C caller: two numbers, then 512 numbers and 512 heights
 
-pub answer_numbers : (map (λ h. three (telling_of h)) (Held 5 ∷ Blank ∷ Refused 27 ∷ []) ≡ height 5 ∷ none ∷ past ∷ [])
-    × (map hour_of (telling_of (Held 0) ∷ telling_of Blank ∷ telling_of (Refused 27) ∷ []) ≡ Held 0 ∷ Blank ∷ Refused 27 ∷ [])
-unfolding telling_of hour_of
+pub answer_numbers : (map (λ h. three (telling_of h)) (Ok (Some 5) ∷ Ok None ∷ Err WearRange ∷ []) ≡ height 5 ∷ none ∷ past ∷ [])
+    × (map hour_of (telling_of (Ok (Some 0)) ∷ telling_of (Ok None) ∷ telling_of (Err WearRange) ∷ []) ≡ Ok (Some 0) ∷ Ok None ∷ Err WearRange ∷ [])
+unfolding telling_of hour_of refusals.answered refusals.number refusals.refusal
 answer_numbers = (refl, refl)
 
 abbrev cells : List ℕ

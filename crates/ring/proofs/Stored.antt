@@ -13,7 +13,11 @@ use Rattle.record.proofs.Choice.{and_left, and_right}
 use Rattle.ring.specs.Samples.{steps_to}
 use Rattle.ring.specs.Kept.{slot_of, takes, hours_on, blanked, with_sample, taking, ring_in, cells_of}
 use Rattle.ring.specs.declared.Ring.{Ring}
-use Rattle.ring.specs.declared.Taken.{Taken}
+use Rattle.ring.specs.Kept.{taken_of}
+use Rattle.std.specs.Prelude.{Ok, Err}
+use Rattle.refusal.specs.Number as refusals
+use Rattle.refusal.specs.declared.Refusal.TheVariants.{WearRange}
+use Rattle.refusal.proofs.Numbers.{accepted, refused_with}
 
 pub length_blanked : (from : ℕ) (numbers : List ℕ) (n k : ℕ) → length (blanked from numbers n k) ≡ length numbers
 unfolding blanked
@@ -103,22 +107,20 @@ unfolding taking
 refused_ring r s h t = rw t
 
 -- the answer to a sample: refused, and taken
-pub sample_refused : (r : Ring) (s h : ℕ) → takes r.any r.newest s h ≡ false → ◌≡◌ {A = Taken} (record { number = 27; ring = r }) (taking r s h)
-unfolding taking
-sample_refused r s h t = rw t
+pub sample_refused : (r : Ring) (s h : ℕ) → takes r.any r.newest s h ≡ false → Err WearRange ≡ taken_of (taking r s h)
+unfolding taking taken_of refusals.number
+sample_refused r s h t = rw t (sym (refused_with r WearRange 27 refl))
 
 pub sample_taken : (r : Ring) (blanks : List ℕ) (s h k at : ℕ) → takes r.any r.newest s h ≡ true
     → k ≡ hours_on r.any r.newest s → at ≡ slot_of s 0 → blanks ≡ blanked 0 r.heights s (k - 1)
-    → ◌≡◌ {A = Taken}
-    (record { number = 0; ring = record { any = 1; newest = s; numbers = set r.numbers at s; heights = set blanks at (h + 1) } })
-    (taking r s h)
-unfolding taking with_sample
+    → Ok (record { any = 1; newest = s; numbers = set r.numbers at s; heights = set blanks at (h + 1) }) ≡ taken_of (taking r s h)
+unfolding taking with_sample taken_of
 sample_taken r blanks s h k at t m a b =
-    let f : List ℕ → ℕ → Taken = λ (l : List ℕ) (x : ℕ).
-    record { number = 0; ring = record { any = 1; newest = s; numbers = set r.numbers x s; heights = set l x (h + 1) } } in
-    rw t (ap (λ (l : List ℕ). f l at) b
-    ∙ (ap (λ (x : ℕ). f (blanked 0 r.heights s (x - 1)) at) m
-    ∙ ap (λ (x : ℕ). f (blanked 0 r.heights s (hours_on r.any r.newest s - 1)) x) a))
+    let f : List ℕ → ℕ → Ring = λ (l : List ℕ) (x : ℕ). record { any = 1; newest = s; numbers = set r.numbers x s; heights = set l x (h + 1) } in
+    rw t (ap (λ (l : List ℕ). Ok (f l at)) b
+    ∙ (ap (λ (x : ℕ). Ok (f (blanked 0 r.heights s (x - 1)) at)) m
+    ∙ (ap (λ (x : ℕ). Ok (f (blanked 0 r.heights s (hours_on r.any r.newest s - 1)) x)) a
+    ∙ sym (accepted _ 0 refl))))
 
 -- the cells after a sample: refused, and taken
 pub cells_refused : (cells : List ℕ) (s h : ℕ) → length cells ≡ 1026 → takes (get_or cells 0 0) (get_or cells 1 0) s h ≡ false

@@ -14,7 +14,7 @@ use Rattle.ring.specs.Samples.{Sample, steps_to, is_taken, taken_after, newest_o
 use Rattle.ring.specs.Kept.{empty_ring, slot_of, takes, hours_on, blanked, with_sample, taking, slot_hour, hour_in, ring_after}
 use Rattle.ring.specs.Claims.{is_none, TellsOf, RingTells}
 use Rattle.ring.specs.declared.Ring.{Ring}
-use Rattle.ring.specs.declared.Taken.{Taken}
+use Rattle.ring.specs.Kept.{Taken}
 use Rattle.ring.proofs.Stored.{length_blanked}
 use Rattle.ring.proofs.Ages.{no_steps, slot_below, slots_differ, slot_moved, age_grown, age_before, blanked_in, blanked_out}
 

@@ -12,8 +12,10 @@ use Rattle.record.proofs.Choice.{and_left, and_right}
 use Rattle.ring.specs.Samples.{steps_to, Telling, not_told}
 use Rattle.ring.specs.Kept.{slot_of, slot_hour, hour_in, telling_of, hour_of, ring_in}
 use Rattle.ring.specs.declared.Ring.{Ring}
-use Rattle.ring.specs.declared.Hour.{Hour}
-use Rattle.ring.specs.declared.Hour.TheVariants.{Sample as Held, Blank, Refused}
+use Rattle.std.specs.Prelude.{Option, None, Some, Result, Ok, Err}
+use Rattle.refusal.specs.Number as refusals
+use Rattle.refusal.specs.declared.Refusal.{Refusal}
+use Rattle.refusal.specs.declared.Refusal.TheVariants.{WearRange}
 
 -- whether a slot holds the sample of an age, at steps from its number to the newest
 abbrev pub is_held : ℕ → ℕ → ℕ → ℕ → Bool
@@ -25,16 +27,16 @@ held_some any at held age h =
     leb-true 1 held (and_left (leb 1 held) (leb held 101) (and_right (eqb at age) both (and_right (not (eqb any 0)) (eqb at age && both) h)))
 
 -- an answer and its numbers
-abbrev Answers : Hour → Telling → Type 0
+abbrev Answers : Result (Option ℕ) Refusal → Telling → Type 0
 Answers h t = (telling_of h ≡ t) × (h ≡ hour_of t)
 
 module _ (any newest number held age at : ℕ) (steps : at ≡ steps_to number newest) where
-  pub answer_held : is_held any at held age ≡ true → Answers (Held (held - 1)) (slot_hour any newest number held age)
-  unfolding telling_of hour_of slot_hour
+  pub answer_held : is_held any at held age ≡ true → Answers (Ok (Some (held - 1))) (slot_hour any newest number held age)
+  unfolding telling_of hour_of slot_hour refusals.answered
   answer_held h = let t : is_held any (steps_to number newest) held age ≡ true = rw steps at h in (rw t, rw t)
 
-  pub answer_blank : is_held any at held age ≡ false → Answers Blank (slot_hour any newest number held age)
-  unfolding telling_of hour_of slot_hour
+  pub answer_blank : is_held any at held age ≡ false → Answers (Ok None) (slot_hour any newest number held age)
+  unfolding telling_of hour_of slot_hour refusals.answered
   answer_blank h = let t : is_held any (steps_to number newest) held age ≡ false = rw steps at h in (rw t, rw t)
 
 -- the hour of an age up to 511 is told from its slot
@@ -59,13 +61,13 @@ pub slot_told_in : (cells : List ℕ) (age k : ℕ) → age ≤ 511 → k ≡ sl
 slot_told_in cells age k h s = rw (← (number_in cells k (omega arith)), ← (height_in cells k)) (slot_told (ring_in cells) age k h s)
 
 -- the answer of the slot is that of the hour
-pub answers : {t u : Telling} (h : Hour) → t ≡ u → Answers h t → Answers h u
+pub answers : {t u : Telling} (h : Result (Option ℕ) Refusal) → t ≡ u → Answers h t → Answers h u
 answers h e a = (a.0 ∙ e, a.1 ∙ ap hour_of e)
 
 hour_past : (r : Ring) (age : ℕ) → 511 < age → not_told 27 ≡ hour_in r age
 unfolding hour_in
 hour_past r age h = rw (lt-leb age 511 h)
 
-pub refuses : (r : Ring) (age : ℕ) → 511 < age → Answers (Refused 27) (hour_in r age)
-unfolding telling_of hour_of
-refuses r age h = answers (Refused 27) (hour_past r age h) (refl, refl)
+pub refuses : (r : Ring) (age : ℕ) → 511 < age → Answers (Err WearRange) (hour_in r age)
+unfolding telling_of hour_of refusals.answered refusals.number refusals.refusal
+refuses r age h = answers (Err WearRange) (hour_past r age h) (refl, refl)

@@ -1,10 +1,9 @@
 -- How the ring keeps its samples (02, f: "Keep a ring of 512 hourly samples, empty at first"). Every value of the struct is a ring.
-use Rattle.std.specs.Prelude.{ℕ, zero, suc, ◌+◌, ◌-◌, ◌%◌, Bool, not, ◌&&◌, ◌||◌, cond, List, [], ◌∷◌, ◌++◌, get_or, set, take, drop, replicate, leb, eqb}
+use Rattle.std.specs.Prelude.{ℕ, zero, suc, ◌+◌, ◌-◌, ◌%◌, Bool, not, ◌&&◌, ◌||◌, cond, List, [], ◌∷◌, ◌++◌, get_or, set, take, drop, replicate, Option, None, Some, Result, Ok, Err, leb, eqb}
 use Rattle.ring.specs.Samples.{Sample, steps_to, Telling, sample_of, blank, not_told}
 use Rattle.ring.specs.declared.Ring.{Ring}
-use Rattle.ring.specs.declared.Taken.{Taken}
-use Rattle.ring.specs.declared.Hour.{Hour}
-use Rattle.ring.specs.declared.Hour.TheVariants.{Sample as Held, Blank, Refused}
+use Rattle.refusal.specs.Number.{number, answered}
+use Rattle.refusal.specs.declared.Refusal.{Refusal}
 
 abbrev pub empty_ring : Ring
 empty_ring = record { any = 0; newest = 0; numbers = replicate 512 0; heights = replicate 512 0 }
@@ -38,6 +37,11 @@ with_sample r sequence height =
       heights = set (blanked 0 r.heights sequence (hours_on r.any r.newest sequence - 1)) (slot_of sequence 0) (height + 1);
     }
 
+-- the ring after a sample, and 0 or why it was refused
+pub record Taken : Type 0 where
+  pub number : ℕ
+  pub ring : Ring
+
 -- taking a sample: "refused (27) with nothing changed"
 unfoldable pub taking : Ring → ℕ → ℕ → Taken
 taking r sequence height =
@@ -56,14 +60,18 @@ hour_in r age =
     cond (leb age 511) (slot_hour r.any r.newest (get_or r.numbers k 0) (get_or r.heights k 0) age) (not_told 27)
 
 -- the numbers of an answer
-unfoldable pub telling_of : Hour → Telling
-telling_of (Held h) = record { number = 0; sampled = 1; height = h }
-telling_of Blank = record { number = 0; sampled = 0; height = 0 }
-telling_of (Refused n) = record { number = n; sampled = 0; height = 0 }
+unfoldable pub telling_of : Result (Option ℕ) Refusal → Telling
+telling_of (Ok (Some h)) = record { number = 0; sampled = 1; height = h }
+telling_of (Ok None) = record { number = 0; sampled = 0; height = 0 }
+telling_of (Err r) = record { number = number r; sampled = 0; height = 0 }
 
 -- the answer with these numbers
-unfoldable pub hour_of : Telling → Hour
-hour_of t = cond (eqb t.number 0) (cond (eqb t.sampled 0) Blank (Held t.height)) (Refused t.number)
+unfoldable pub hour_of : Telling → Result (Option ℕ) Refusal
+hour_of t = answered t.number (cond (eqb t.sampled 0) None (Some t.height))
+
+-- the answer to a sample: the ring after it, or its refusal
+unfoldable pub taken_of : Taken → Result Ring Refusal
+taken_of t = answered t.number t.ring
 
 -- the ring after samples
 unfoldable pub ring_after : Ring → List Sample → Ring

@@ -12,18 +12,3 @@ pub struct Ring {
     pub numbers: [u16; 512],
     pub heights: [u16; 512],
 }
-
-// The ring after a sample, and 0 or why it was refused.
-#[derive(Drop)]
-pub struct Taken {
-    pub number: u32,
-    pub ring: Ring,
-}
-
-// What is told of an hour: its sample's height, that it is blank, or why it is not told.
-#[derive(Clone, Copy)]
-pub enum Hour {
-    Sample(u32),
-    Blank,
-    Refused(u32),
-}

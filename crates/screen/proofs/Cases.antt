@@ -8,10 +8,11 @@ use Rattle.pixel.specs.Depth.{is_depth}
 use Rattle.screen.specs.Image.{image_end, start_of}
 use Rattle.screen.specs.Screen.{fields_of, well_formed, panel_ok, view_width, view_height, whole_dwords, main_image, window_image, line_ok, image_ok, window_ok, window_whole, field_rows, screen_rows, screen_of}
 use Rattle.screen.specs.Values.{window_x, window_y, origin_of, values_of}
+use Rattle.refusal.specs.Number as refusals
 use Rattle.screen.specs.Cases.{case, same, all_hold, screen_cases, line_cases}
 
 pub cases_hold : all_hold (screen_cases ++ line_cases) ≡ true
-unfolding all_zero first_of is_depth image_end start_of fields_of well_formed panel_ok view_width view_height whole_dwords main_image window_image line_ok image_ok window_ok window_whole field_rows screen_rows screen_of window_x window_y origin_of values_of all_hold screen_cases line_cases
+unfolding refusals.answered refusals.number refusals.refusal all_zero first_of is_depth image_end start_of fields_of well_formed panel_ok view_width view_height whole_dwords main_image window_image line_ok image_ok window_ok window_whole field_rows screen_rows screen_of window_x window_y origin_of values_of all_hold screen_cases line_cases
 cases_hold = refl
 
 -- a number that is missing, one too many, and another one are each told; so is a single case among others

@@ -1,11 +1,12 @@
 -- 01's cases S1 to S9 (01, "Cases"), each as the numbers that the definitions give beside the numbers that the paper names; and cases of
 -- line lengths, whose numbers were worked out by hand from 02, c).
-use Rattle.std.specs.Prelude.{ℕ, ◌/◌, ◌%◌, List, [], ◌∷◌, ◌++◌, Bool, true, false, ◌&&◌, eqb}
+use Rattle.std.specs.Prelude.{ℕ, ◌/◌, ◌%◌, List, [], ◌∷◌, ◌++◌, Bool, true, false, ◌&&◌, Result, Ok, Err, eqb}
 use Rattle.record.specs.Bytes.{two_bytes, four_bytes}
+use Rattle.refusal.specs.Number.{number as refusal_number}
+use Rattle.refusal.specs.declared.Refusal.{Refusal}
 use Rattle.screen.specs.Screen.{screen_of, memory_size}
 use Rattle.screen.specs.Values.{values_of}
-use Rattle.screen.specs.declared.ScreenAnswer.{ScreenAnswer}
-use Rattle.screen.specs.declared.ScreenAnswer.TheVariants.{Accepted, Refused}
+use Rattle.screen.specs.declared.Screen.{Screen}
 
 -- a case: the numbers that the definitions give, and the paper's
 pub record Case : Type 0 where
@@ -47,26 +48,26 @@ abbrev pub with_window : ℕ → ℕ → ℕ → ℕ → ℕ → List ℕ
 with_window rotation x y width height = window_lined rotation x y width height 0 0 0 0
 
 -- the refusal number, then on acceptance the main image's start and offset
-abbrev main : ScreenAnswer → List ℕ
-main (Refused n) = n ∷ []
-main (Accepted s) = let v = values_of s in 0 ∷ v.main.start ∷ v.main.offset ∷ []
+abbrev main : Result Screen Refusal → List ℕ
+main (Err r) = refusal_number r ∷ []
+main (Ok s) = let v = values_of s in 0 ∷ v.main.start ∷ v.main.offset ∷ []
 
 -- the same of the window's
-abbrev small : ScreenAnswer → List ℕ
-small (Refused n) = n ∷ []
-small (Accepted s) = let v = values_of s in 0 ∷ v.window.start ∷ v.window.offset ∷ []
+abbrev small : Result Screen Refusal → List ℕ
+small (Err r) = refusal_number r ∷ []
+small (Ok s) = let v = values_of s in 0 ∷ v.window.start ∷ v.window.offset ∷ []
 
 -- the refusal number, then on acceptance X start, X end, Y start and Y end: the low and the high half of each position register
-abbrev window : ScreenAnswer → List ℕ
-window (Refused n) = n ∷ []
-window (Accepted s) = let v = values_of s in 0 ∷ v.x % 65536 ∷ v.x / 65536 ∷ v.y % 65536 ∷ v.y / 65536 ∷ []
+abbrev window : Result Screen Refusal → List ℕ
+window (Err r) = refusal_number r ∷ []
+window (Ok s) = let v = values_of s in 0 ∷ v.x % 65536 ∷ v.x / 65536 ∷ v.y % 65536 ∷ v.y / 65536 ∷ []
 
 -- the refusal number alone
-abbrev number : ScreenAnswer → List ℕ
-number (Refused n) = n ∷ []
-number (Accepted s) = 0 ∷ []
+abbrev number : Result Screen Refusal → List ℕ
+number (Err r) = refusal_number r ∷ []
+number (Ok s) = 0 ∷ []
 
-abbrev answer : List ℕ → ScreenAnswer
+abbrev answer : List ℕ → Result Screen Refusal
 answer b = screen_of memory_size b
 
 unfoldable pub screen_cases : List Case

@@ -1,13 +1,13 @@
 -- The screen record (01, "Stored records"; 02, c), and its refusals 1 to 9 and 26 (01, "Refusal numbers"; 02, c).
-use Rattle.std.specs.Prelude.{ℕ, ◌+◌, ◌*◌, ◌%◌, List, [], ◌∷◌, Bool, ◌&&◌, ◌||◌, not, cond, length, take, drop, ltb, leb, eqb}
+use Rattle.std.specs.Prelude.{ℕ, ◌+◌, ◌*◌, ◌%◌, List, [], ◌∷◌, Bool, ◌&&◌, ◌||◌, not, cond, length, take, drop, Result, ltb, leb, eqb}
 use Rattle.record.specs.Bytes.{byte_at, u16_at, u32_at, all_zero}
 use Rattle.record.specs.Checks.{Row, row, first_of}
 use Rattle.pixel.specs.Depth.{is_depth, per_dword}
+use Rattle.refusal.specs.Number.{answered}
+use Rattle.refusal.specs.declared.Refusal.{Refusal}
 use Rattle.screen.specs.Image.{line_bytes, line_pixels, image_end}
 use Rattle.screen.specs.declared.Image.{Image}
 use Rattle.screen.specs.declared.Screen.{Screen}
-use Rattle.screen.specs.declared.ScreenAnswer.{ScreenAnswer}
-use Rattle.screen.specs.declared.ScreenAnswer.TheVariants.{Accepted, Refused}
 
 -- bytes of display memory of the S1D13A05
 abbrev pub memory_size : ℕ
@@ -127,10 +127,5 @@ unfoldable pub screen_rows : ℕ → List ℕ → List Row
 screen_rows m b = row 1 (not (well_formed b)) ∷ field_rows m (fields_of b)
 
 -- the answer to a record: its screen, or the first number
-unfoldable pub screen_of : ℕ → List ℕ → ScreenAnswer
-screen_of m b = cond (eqb (first_of (screen_rows m b)) 0) (Accepted (fields_of b)) (Refused (first_of (screen_rows m b)))
-
--- 01's number of an answer
-unfoldable pub number_of : ScreenAnswer → ℕ
-number_of (Accepted s) = 0
-number_of (Refused n) = n
+unfoldable pub screen_of : ℕ → List ℕ → Result Screen Refusal
+screen_of m b = answered (first_of (screen_rows m b)) (fields_of b)

@@ -1,6 +1,9 @@
 // The screen record, and the six screen register values.
 #![tactic(auto)]
 
+// Bytes of display memory of the S1D13A05.
+pub const MEMORY_SIZE: u64 = 262144;
+
 // The small window: its image's base, its place in the view, its size, and its image's line length in pixels (0: the shown width).
 #[derive(Clone, Copy)]
 pub struct Window {
@@ -25,12 +28,6 @@ pub struct Screen {
     pub window: Window,
 }
 
-#[derive(Clone, Copy)]
-pub enum ScreenAnswer {
-    Accepted(Screen),
-    Refused(u32),
-}
-
 // An image in display memory: its base, its line length in bytes, and the pixels that it shows.
 #[derive(Clone, Copy)]
 pub struct Image {
@@ -41,14 +38,14 @@ pub struct Image {
 }
 
 // An image's start and line offset registers, in dwords.
-#[derive(Clone, Copy)]
+#[derive(Clone, Copy, Default)]
 pub struct Origin {
     pub start: u64,
     pub offset: u64,
 }
 
 // The six screen register values.
-#[derive(Clone, Copy)]
+#[derive(Clone, Copy, Default)]
 pub struct ScreenValues {
     pub main: Origin,
     pub window: Origin,

@@ -5,53 +5,53 @@ use mathlib.Core.Bool.{Bool, true, false, ◌&&◌}
 use mathlib.Core.List.{List, [], ◌∷◌}
 use lib.Dec.{ltb, eqb}
 use borrow.Author.Tests.{eqb-true, eq-eqb}
+use Rattle.std.specs.Prelude.{Result, Ok, Err}
+use Rattle.refusal.specs.declared.Refused.{Refused}
+use Rattle.refusal.specs.declared.Refusal.{Refusal}
+use Rattle.refusal.specs.Number as refusals
 use Rattle.record.proofs.Choice.{and_left, and_right, and_go}
 use Rattle.screen.specs.Screen.{memory_size}
 use Rattle.screen.specs.declared.ScreenValues.{ScreenValues}
 use Rattle.compiler.specs.Compile.{compiling_of}
 use Rattle.compiler.specs.declared.Compiled.{Compiled}
-use Rattle.compiler.specs.declared.Compiled.TheVariants.{Accepted, Refused}
-use Rattle.chip.specs.declared.Played.{Played}
-use Rattle.chip.specs.declared.Played.TheVariants.{Accepted as Played-as-Accepted, Refused as Played-as-Refused}
 use Rattle.reader.specs.Read.{reading, answer_of}
 use Rattle.reader.specs.declared.Display.{Display}
-use Rattle.reader.specs.declared.PointAnswer.{PointAnswer}
-use Rattle.reader.specs.declared.PointAnswer.TheVariants.{Shown, Refused as Point-as-Refused}
+use Rattle.reader.specs.declared.Point.{Point}
 use Rattle.script.specs.Script.{number_at, number_of}
 use Rattle.script.specs.Verdict.{is_record, display_on, is_colour, is_point, same_bytes}
 
 -- ---- a record
-pub record_is : (line : List ℕ) (c : Compiled) (stream : List ℕ) (i n v low high size number : ℕ) → i ≡ number_of line 0 → n ≡ number_at stream (8 * i) → v ≡ number_at stream (8 * i + 4) → low ≡ number_of line 2 → high ≡ number_of line 3 → size ≡ (compiling_of c).length → number ≡ number_of line 1 → (ltb (8 * i) size && (eqb n number && eqb v (low + 65536 * high))) ≡ is_record line c stream
+pub record_is : (line : List ℕ) (c : Result Compiled Refused) (stream : List ℕ) (i n v low high size number : ℕ) → i ≡ number_of line 0 → n ≡ number_at stream (8 * i) → v ≡ number_at stream (8 * i + 4) → low ≡ number_of line 2 → high ≡ number_of line 3 → size ≡ (compiling_of c).length → number ≡ number_of line 1 → (ltb (8 * i) size && (eqb n number && eqb v (low + 65536 * high))) ≡ is_record line c stream
 unfolding is_record
 record_is line c stream i n v low high size number e f g h j k l = rw (f, g, h, j, k, l, e)
 
 -- ---- a panel point
-module _ (c : Compiled) (desk : List ℕ) (w h : ℕ) (e : w ≡ number_at desk 4) (f : h ≡ number_at desk 6) where
-  pub display_accepted : (n depth rotation flag : ℕ) → c ≡ Accepted n depth rotation flag → ◌≡◌ {A = Display} (record { depth = depth; rotation = rotation; flag = flag; width = w % 65536; height = h % 65536 }) (display_on c desk)
+module _ (c : Result Compiled Refused) (desk : List ℕ) (w h : ℕ) (e : w ≡ number_at desk 4) (f : h ≡ number_at desk 6) where
+  pub display_accepted : (x : Compiled) → c ≡ Ok x → ◌≡◌ {A = Display} (record { depth = x.depth; rotation = x.rotation; flag = x.flag; width = w % 65536; height = h % 65536 }) (display_on c desk)
   unfolding display_on compiling_of
-  display_accepted n depth rotation flag g = rw (g, e, f)
+  display_accepted x g = rw (g, e, f)
 
-  pub display_refused : (n i : ℕ) → c ≡ Refused n i → ◌≡◌ {A = Display} (record { depth = 0; rotation = 0; flag = 0; width = w % 65536; height = h % 65536 }) (display_on c desk)
+  pub display_refused : (r : Refused) → c ≡ Err r → ◌≡◌ {A = Display} (record { depth = 0; rotation = 0; flag = 0; width = w % 65536; height = h % 65536 }) (display_on c desk)
   unfolding display_on compiling_of
-  display_refused n i g = rw (g, e, f)
+  display_refused r g = rw (g, e, f)
 
-module _ (line : List ℕ) (a : PointAnswer) where
-  pub colour_shown : (c address bit n : ℕ) → a ≡ Shown c address bit → n ≡ number_of line 2 → eqb c n ≡ is_colour line a
+module _ (line : List ℕ) (a : Result Point Refusal) where
+  pub colour_shown : (p : Point) (n : ℕ) → a ≡ Ok p → n ≡ number_of line 2 → eqb p.colour n ≡ is_colour line a
   unfolding is_colour
-  colour_shown c address bit n e f = rw (e, f)
+  colour_shown p n e f = rw (e, f)
 
-  pub colour_refused : (n : ℕ) → a ≡ Point-as-Refused n → false ≡ is_colour line a
+  pub colour_refused : (r : Refusal) → a ≡ Err r → false ≡ is_colour line a
   unfolding is_colour
-  colour_refused n e = rw e
+  colour_refused r e = rw e
 
-module _ (line : List ℕ) (c : Compiled) (p : Played) (desk memory : List ℕ) where
-  pub point_played : (v : ScreenValues) (d : Display) (x y : ℕ) (a : PointAnswer) (r : Bool) → p ≡ Played-as-Accepted v → d ≡ display_on c desk → x ≡ number_of line 0 → y ≡ number_of line 1 → a ≡ answer_of (reading memory_size d v x y memory) → r ≡ is_colour line a → r ≡ is_point line c p desk memory
+module _ (line : List ℕ) (c : Result Compiled Refused) (p : Result ScreenValues Refused) (desk memory : List ℕ) where
+  pub point_played : (v : ScreenValues) (d : Display) (x y : ℕ) (a : Result Point Refusal) (r : Bool) → p ≡ Ok v → d ≡ display_on c desk → x ≡ number_of line 0 → y ≡ number_of line 1 → a ≡ answer_of (reading memory_size d v x y memory) → r ≡ is_colour line a → r ≡ is_point line c p desk memory
   unfolding is_point
   point_played v d x y a r e f g h i j = rw (e, ← f, ← g, ← h, ← i) j
 
-  pub point_refused : (n i : ℕ) → p ≡ Played-as-Refused n i → false ≡ is_point line c p desk memory
+  pub point_refused : (r : Refused) → p ≡ Err r → false ≡ is_point line c p desk memory
   unfolding is_point
-  point_refused n i e = rw e
+  point_refused r e = rw e
 
 -- ---- the same bytes
 same_self : (a : List ℕ) → same_bytes a a ≡ true

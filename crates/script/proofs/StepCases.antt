@@ -3,14 +3,17 @@ use Prim.Native.Nat.{ℕ}
 use mathlib.Core.Path.{◌≡◌, refl}
 use mathlib.Core.List.{List, [], ◌∷◌, ◌++◌, map}
 use lib.ListN.{length, take, replicate}
+use Rattle.std.specs.Prelude.{Result, Ok, Err}
+use Rattle.refusal.specs.declared.Refused.{Refused}
+use Rattle.refusal.specs.declared.Refusal.{Refusal}
+use Rattle.refusal.specs.Number as refusals
 use Rattle.screen.specs.Screen.{memory_size}
 use Rattle.command.specs.Task.{short_form, long_form, task}
 use Rattle.compiler.specs.Compile.{compiling, buffer_after, compiling_of, answer_of as compiledFrom}
 use Rattle.compiler.specs.declared.Compiled.{Compiled}
-use Rattle.compiler.specs.declared.Compiled.TheVariants as compiled
 use Rattle.older.specs.Compile.{older_compiling, older_buffer}
 use Rattle.chip.specs.Play.{playing, played, answer_of as playedFrom}
-use Rattle.chip.specs.declared.Played.{Played}
+use Rattle.screen.specs.declared.ScreenValues.{ScreenValues}
 use Rattle.script.specs.Script.{number_at, number_put, scan_byte, scan_bytes, number_of, fields_put, words_put}
 use Rattle.script.specs.Steps.{screen_step, command_step, long_step, word_step, store_step, patch_step, example_step, keep_step, compile_step, older_step, play_step, desk_after, words_after, stream_patched, kept_after, memory_after, screen_on, form_on, list_on, words_on, compiled_after, stream_after, stream_on, played_after, memory_played}
 
@@ -72,12 +75,12 @@ unfolding number_put scan_byte scan_bytes number_of words_put words_after stream
 set_cases = (refl, refl, refl)
 
 -- what is compiled has 32 bytes of screen record; what is played, as many as compiling gave
-pub part_cases : (length (screen_on commanded) ≡ 32) × (stream_on (compiled.Accepted 2 8 0 0) (1 ∷ 2 ∷ 3 ∷ []) ≡ 1 ∷ 2 ∷ [])
+pub part_cases : (length (screen_on commanded) ≡ 32) × (stream_on (Ok (record { length = 2; depth = 8; rotation = 0; flag = 0 })) (1 ∷ 2 ∷ 3 ∷ []) ≡ 1 ∷ 2 ∷ [])
 unfolding compiling_of number_at number_put scan_byte scan_bytes number_of fields_put desk_after
 part_cases = (refl, refl)
 
 -- compiling and playing happen at their own steps, on any desk and any memory
-module _ (c : Compiled) (p : Played) (desk words stream memory : List ℕ) (room : ℕ) where
+module _ (c : Result Compiled Refused) (p : Result ScreenValues Refused) (desk words stream memory : List ℕ) (room : ℕ) where
   pub compile_cases : (compiled_after compile_step c desk words room ≡ compiledFrom (compiling memory_size (task (form_on desk) (screen_on desk) (list_on desk) (words_on desk words)) room))
       × (stream_after compile_step desk words stream ≡ buffer_after memory_size (task (form_on desk) (screen_on desk) (list_on desk) (words_on desk words)) stream)
       × (compiled_after older_step c desk words room ≡ compiledFrom (older_compiling (task (form_on desk) (screen_on desk) (list_on desk) (words_on desk words)) room))

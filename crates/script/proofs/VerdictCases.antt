@@ -3,9 +3,12 @@ use Prim.Native.Nat.{ℕ}
 use mathlib.Core.Path.{◌≡◌, refl}
 use mathlib.Core.Bool.{Bool, true, false}
 use mathlib.Core.List.{List, [], ◌∷◌, map}
+use Rattle.std.specs.Prelude.{Result, Ok, Err}
+use Rattle.refusal.specs.declared.Refused.{Refused}
+use Rattle.refusal.specs.declared.Refusal.{Refusal}
+use Rattle.refusal.specs.Number as refusals
+use Rattle.refusal.specs.declared.Refusal.TheVariants.{Rotation, WindowDwords, StreamLength}
 use Rattle.compiler.specs.Compile.{compiling_of}
-use Rattle.compiler.specs.declared.Compiled.TheVariants.{Accepted, Refused}
-use Rattle.chip.specs.declared.Played.TheVariants.{Refused as Played-as-Refused}
 use Rattle.script.specs.Script.{number_at, scan_byte, scan_bytes, number_of}
 use Rattle.script.specs.Steps.{example_step, store_step, compile_step, older_step, play_step}
 use Rattle.script.specs.Verdict.{reg_step, records_step, point_step, same_step, done_step, is_answer, is_played, is_record, has_records, is_point, same_bytes, is_comment, holds, judged}
@@ -26,7 +29,7 @@ abbrev stream : List ℕ
 stream = 0x54 ∷ 0 ∷ 0 ∷ 0 ∷ 9 ∷ 0 ∷ 0 ∷ 0 ∷ 0x58 ∷ 0 ∷ 0 ∷ 0 ∷ 0xA ∷ 0 ∷ 0x1D ∷ 0 ∷ []
 
 -- so it is in a stream of two records, and is not in one of one record
-pub record_cases : (is_record line (Accepted 16 8 0 0) stream ≡ true) × (is_record line (Accepted 8 8 0 0) stream ≡ false)
+pub record_cases : (is_record line (Ok (record { length = 16; depth = 8; rotation = 0; flag = 0 })) stream ≡ true) × (is_record line (Ok (record { length = 8; depth = 8; rotation = 0; flag = 0 })) stream ≡ false)
 unfolding compiling_of number_at scan_byte scan_bytes number_of is_record
 record_cases = (refl, refl)
 
@@ -54,18 +57,18 @@ judged_cases = (refl, refl, refl)
 abbrev eight : List ℕ
 eight = 99 ∷ 111 ∷ 109 ∷ 112 ∷ 32 ∷ 32 ∷ 32 ∷ 32 ∷ 56 ∷ []
 
-pub answer_cases : (is_answer eight (Refused 8 3) ≡ true) × (is_answer eight (Refused 3 8) ≡ false) × (is_answer eight (Accepted 64 8 0 0) ≡ false)
-unfolding compiling_of scan_byte scan_bytes number_of
+pub answer_cases : (is_answer eight (Err (record { refusal = WindowDwords; place = 3 })) ≡ true) × (is_answer eight (Err (record { refusal = Rotation; place = 8 })) ≡ false) × (is_answer eight (Ok (record { length = 64; depth = 8; rotation = 0; flag = 0 })) ≡ false)
+unfolding refusals.number compiling_of scan_byte scan_bytes number_of
 answer_cases = (refl, refl, refl)
 
 -- eight records are 64 bytes
-pub records_cases : (has_records eight (Accepted 64 8 0 0) ≡ true) × (has_records eight (Accepted 8 8 0 0) ≡ false)
+pub records_cases : (has_records eight (Ok (record { length = 64; depth = 8; rotation = 0; flag = 0 })) ≡ true) × (has_records eight (Ok (record { length = 8; depth = 8; rotation = 0; flag = 0 })) ≡ false)
 unfolding compiling_of scan_byte scan_bytes number_of
 records_cases = (refl, refl)
 
 -- the verdict on a line, with compiling accepted and playing refused, and two memories that differ
 abbrev verdict : ℕ → List ℕ → Bool
-verdict k l = holds k l (Accepted 64 8 0 0) (Played-as-Refused 0 0) [] [] (1 ∷ []) (2 ∷ [])
+verdict k l = holds k l (Ok (record { length = 64; depth = 8; rotation = 0; flag = 0 })) (Err (record { refusal = StreamLength; place = 0 })) [] [] (1 ∷ []) (2 ∷ [])
 
 -- `older`, without a number
 abbrev bare : List ℕ

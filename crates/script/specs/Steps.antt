@@ -3,6 +3,10 @@
 --
 -- The desk holds the screen record, from byte 32 on a command with room for the long form, at 80 how many commands there are (0 or 1), at 84
 -- how many host words, and at 88 whether the list is in the long form.
+use Rattle.std.specs.Prelude.{Result, Ok, Err}
+use Rattle.refusal.specs.declared.Refused.{Refused}
+use Rattle.refusal.specs.declared.Refusal.{Refusal}
+use Rattle.refusal.specs.Number as refusals
 use Rattle.std.specs.Prelude.{ℕ, ◌*◌, ◌%◌, List, [], ◌∷◌, Bool, ◌||◌, cond, take, drop, replicate, eqb}
 use Rattle.screen.specs.Screen.{memory_size}
 use Rattle.command.specs.Task.{short_form, long_form, Task, task}
@@ -10,7 +14,7 @@ use Rattle.compiler.specs.Compile.{compiling, buffer_after, compiling_of, answer
 use Rattle.compiler.specs.declared.Compiled.{Compiled}
 use Rattle.older.specs.Compile.{older_compiling, older_buffer}
 use Rattle.chip.specs.Play.{playing, played, answer_of as playedFrom}
-use Rattle.chip.specs.declared.Played.{Played}
+use Rattle.screen.specs.declared.ScreenValues.{ScreenValues}
 use Rattle.script.specs.Script.{number_at, number_put, fields_put, stored, words_put}
 
 -- ---- the steps that leave something: the first four letters of a line as a number, the first letter lowest
@@ -120,7 +124,7 @@ abbrev pub task_on : List ℕ → List ℕ → Task
 task_on desk words = task (form_on desk) (screen_on desk) (list_on desk) (words_on desk words)
 
 -- the answer of the last compiling, for the S1D13A05 or the older S1D13706, into a stream buffer of `room` bytes
-unfoldable pub compiled_after : ℕ → Compiled → List ℕ → List ℕ → ℕ → Compiled
+unfoldable pub compiled_after : ℕ → Result Compiled Refused → List ℕ → List ℕ → ℕ → Result Compiled Refused
 compiled_after k old desk words room =
     cond (eqb k compile_step) (compiledFrom (compiling memory_size (task_on desk words) room))
     (cond (eqb k older_step) (compiledFrom (older_compiling (task_on desk words) room)) old)
@@ -132,13 +136,13 @@ stream_after k desk words stream =
     (cond (eqb k older_step) (older_buffer (task_on desk words) stream) stream)
 
 -- what is played: the stream in the length that compiling gave
-abbrev pub stream_on : Compiled → List ℕ → List ℕ
+abbrev pub stream_on : Result Compiled Refused → List ℕ → List ℕ
 stream_on c stream = take (compiling_of c).length stream
 
 -- the answer of the last playing
-unfoldable pub played_after : ℕ → Played → Compiled → List ℕ → List ℕ → Played
+unfoldable pub played_after : ℕ → Result ScreenValues Refused → Result Compiled Refused → List ℕ → List ℕ → Result ScreenValues Refused
 played_after k old c stream memory = cond (eqb k play_step) (playedFrom (playing memory_size (stream_on c stream) memory)) old
 
 -- the memory after playing
-unfoldable pub memory_played : ℕ → Compiled → List ℕ → List ℕ → List ℕ
+unfoldable pub memory_played : ℕ → Result Compiled Refused → List ℕ → List ℕ → List ℕ
 memory_played k c stream memory = cond (eqb k play_step) (played memory_size (stream_on c stream) memory) memory

@@ -13,7 +13,7 @@ use Rattle.record.specs.declared.Record.{Record}
 use Rattle.record.proofs.Records.{records_count}
 use Rattle.screen.specs.Screen.{memory_size}
 use Rattle.chip.specs.Play.{new_chip, run, applied, Playing, refused_by, ending, playing, played}
-use Rattle.chip.specs.declared.Run.{Run}
+use Rattle.chip.specs.Play.{Running}
 use Rattle.chip.proofs.Answers.{accepted_by_lem, whole, end_refused}
 use Rattle.serial.specs.State.{most_records, chip_of, state_of, new_player}
 use Rattle.serial.specs.Serial.{Stage, bytes_taken, block_rows, kept_by, Feeding, fed_with, feeding, keeping, ended_player, end_answer}
@@ -77,7 +77,7 @@ abbrev limited : Playing → Playing
 limited p = record { number = p.number; place = up_to p.place; values = p.values }
 
 -- k records were taken of n
-module _ (r : Run) (n k : ℕ) (reach : Reached r 0 n k) where
+module _ (r : Running) (n k : ℕ) (reach : Reached r 0 n k) where
   abbrev near : ℕ → Playing
   near i = ending (record { number = r.number; place = i; chip = r.chip }) i
 
@@ -120,7 +120,7 @@ module _ (blocks : List (List ℕ)) (memory : List ℕ) (sized : length memory �
   abbrev records : ℕ
   records = length bytes / 8
 
-  abbrev end_run : Run
+  abbrev end_run : Running
   end_run = run memory_size new_chip 0 (records_of bytes)
 
   abbrev before : List Record

@@ -18,7 +18,7 @@ use Rattle.chip.specs.Register.{fits}
 use Rattle.chip.specs.Admit.{refusal, chip_after, effect}
 use Rattle.chip.specs.Play.{run, applied}
 use Rattle.chip.specs.declared.Chip.{Chip}
-use Rattle.chip.specs.declared.Run.{Run}
+use Rattle.chip.specs.Play.{Running}
 use Rattle.chip.proofs.Runs.{run_taken, run_refused}
 use Rattle.chip.proofs.Screens.{Each, each_run}
 use Rattle.serial.specs.State.{most_records, counted}
@@ -43,11 +43,11 @@ module _ (m : ℕ) (c : Chip) (r : Record) (rs : List Record) where
   before_none e = rw (ne_eqb (refusal m c r) 0 e)
 
 -- how many they are, by the run: all, or those before the refused one
-abbrev pub Reached : Run → ℕ → ℕ → ℕ → Type 0
+abbrev pub Reached : Running → ℕ → ℕ → ℕ → Type 0
 Reached r i n k = (r.number ≡ 0 → k ≡ n) × ((r.number ≡ 0 → ⊥) → r.place ≡ i + k)
 
-reached_taken : (r s : Run) (i n k l : ℕ) → r ≡ s → l ≡ suc k → Reached s (suc i) n k → Reached r i (suc n) l
-reached_taken r s i n k l e q f = (λ z. omega (arith, f.0 (sym (ap (λ (x : Run). x.number) e) ∙ z)), λ z. ap (λ (x : Run). x.place) e ∙ f.1 (λ y. z (ap (λ (x : Run). x.number) e ∙ y)) ∙ omega arith)
+reached_taken : (r s : Running) (i n k l : ℕ) → r ≡ s → l ≡ suc k → Reached s (suc i) n k → Reached r i (suc n) l
+reached_taken r s i n k l e q f = (λ z. omega (arith, f.0 (sym (ap (λ (x : Running). x.number) e) ∙ z)), λ z. ap (λ (x : Running). x.place) e ∙ f.1 (λ y. z (ap (λ (x : Running). x.number) e ∙ y)) ∙ omega arith)
 
 pub reached : (m : ℕ) (c : Chip) (i : ℕ) (rs : List Record) → Reached (run m c i rs) i (length rs) (length (before_refused m c rs))
 unfolding run before_refused
@@ -63,8 +63,8 @@ reached m c i (r ∷ rs) = by_test (reached m (chip_after c r) (suc i) rs) (eqb 
         let e = eqb-false (refusal m c r) 0 q in
         let s = run_refused m c i r rs e in
         let n : length (before_refused m c (r ∷ rs)) ≡ 0 = ap (λ (l : List Record). length l) (before_none m c r rs e) in (
-          λ z. absurd (e (sym (ap (λ (x : Run). x.number) s) ∙ z)),
-          λ z. ap (λ (x : Run). x.place) s ∙ omega arith,
+          λ z. absurd (e (sym (ap (λ (x : Running). x.number) s) ∙ z)),
+          λ z. ap (λ (x : Running). x.place) s ∙ omega arith,
         )
 
 -- they are the first of a stream's records
@@ -143,19 +143,19 @@ follows m c i n (r ∷ rs) old most = follows_either m c i n r rs old most (foll
 -- ---- the two passes of the code
 
 -- the records that a run takes
-pub taken_is : (r : Run) (n k : ℕ) → Reached r 0 n k → cond (eqb r.number 0) n r.place ≡ k
+pub taken_is : (r : Running) (n k : ℕ) → Reached r 0 n k → cond (eqb r.number 0) n r.place ≡ k
 taken_is r n k reach = by_test (eqb r.number 0) refl
   where
     by_test : (t : Bool) → eqb r.number 0 ≡ t → cond t n r.place ≡ k
     by_test true q = sym (reach.0 (eqb-true r.number 0 q))
     by_test false q = omega (arith, reach.1 (eqb-false r.number 0 q))
 
-module _ (m : ℕ) (c : Chip) (bytes : List ℕ) (r : Run) (taken : ℕ) (ran : r ≡ run m c 0 (records_of bytes)) (by : taken ≡ cond (eqb r.number 0) (length bytes / 8) r.place) where
+module _ (m : ℕ) (c : Chip) (bytes : List ℕ) (r : Running) (taken : ℕ) (ran : r ≡ run m c 0 (records_of bytes)) (by : taken ≡ cond (eqb r.number 0) (length bytes / 8) r.place) where
   abbrev before : List Record
   before = before_refused m c (records_of bytes)
 
   reach : Reached r 0 (length bytes / 8) (length before)
-  reach = subst (λ (x : Run). Reached x 0 (length bytes / 8) (length before)) (sym ran) (subst (λ (n : ℕ). Reached (run m c 0 (records_of bytes)) 0 n (length before)) (records_count bytes) (reached m c 0 (records_of bytes)))
+  reach = subst (λ (x : Running). Reached x 0 (length bytes / 8) (length before)) (sym ran) (subst (λ (n : ℕ). Reached (run m c 0 (records_of bytes)) 0 n (length before)) (records_count bytes) (reached m c 0 (records_of bytes)))
 
   count_is : taken ≡ length before
   count_is = by ∙ taken_is r (length bytes / 8) (length before) reach

@@ -15,50 +15,41 @@ use Rattle.record.specs.Record.{stream_bytes}
 use Rattle.record.proofs.Stores.{length_stream, length_over}
 use Rattle.command.specs.Task.{Task, task, screen_in}
 use Rattle.compiler.specs.Stream.{records_in}
-use Rattle.compiler.specs.Compile.{stream_of, Compiling, compiling, buffer_after, compiling_of, answer_of}
+use Rattle.compiler.specs.Compile.{stream_of, Compiling, compiling, buffer_after, compiling_of}
 use Rattle.compiler.specs.declared.Compiled.{Compiled}
-use Rattle.compiler.specs.declared.Compiled.TheVariants as compiled
 use Rattle.compiler.proofs.Accepted.{compiled_says}
-use Rattle.chip.specs.Play.{Playing, playing, played, playing_of, answer_of as chip_answer_of}
-use Rattle.chip.specs.declared.Played.{Played}
-use Rattle.chip.specs.declared.Played.TheVariants as played
+use Rattle.chip.specs.Play.{Playing, playing, played, playing_of}
 use Rattle.unit.specs.Demands.{InBytes, DrawnTruly, stream_given}
 use Rattle.unit.specs.Draw.{Drawing, refused_by, drawing, memory_drawn, stream_drawn, drawing_of, answer_of as unit_answer_of}
 use Rattle.unit.specs.Sheet.{sheet_commands, sheet_after}
 use Rattle.unit.specs.declared.Drawn.{Drawn}
-use Rattle.unit.specs.declared.Drawn.TheVariants.{Accepted, Refused}
+use Rattle.std.specs.Prelude.{Result, Ok, Err}
+use Rattle.refusal.specs.Number as refusals
+use Rattle.refusal.specs.declared.Refusal.TheVariants.{MemoryLength}
+use Rattle.refusal.specs.declared.Refused.{Refused}
+use Rattle.refusal.proofs.Numbers.{number_positive, accepted_at, accepted_by_at, refused_with_at}
 use Rattle.unit.proofs.Demands.{demand_3, values_given_lem}
 
--- which of the two answers
-abbrev is_accepted : Compiled → Bool
-is_accepted (compiled.Accepted n d r f) = true
-is_accepted (compiled.Refused n i) = false
+-- a refusal has a number above 0
+not_zero : (r : Refused) → refusals.number r.refusal ≡ 0 → ⊥
+not_zero r z = let p = number_positive r.refusal in omega (arith, p)
 
-abbrev is_played : Played → Bool
-is_played (played.Accepted v) = true
-is_played (played.Refused n i) = false
+refused_number : (r : Refused) (c : Compiling) → compiling_of (Err r) ≡ c → c.number ≡ 0 → ⊥
+unfolding compiling_of
+refused_number r c e z = not_zero r (ap (λ (x : Compiling). x.number) e ∙ z)
 
--- a refusal has a number above 0, and an acceptance 0
-refused_number : (n i : ℕ) (c : Compiling) → compiled.Refused n i ≡ answer_of c → c.number ≡ 0 → ⊥
-unfolding answer_of
-refused_number n i c e z = true≢false (sym (ap is_accepted (rw (eq-eqb c.number 0 z) at e)))
-
-not_played : (n i : ℕ) (p : Playing) → p.number ≡ 0 → played.Refused n i ≡ chip_answer_of p → ⊥
-unfolding chip_answer_of
-not_played n i p z e = true≢false (sym (ap is_played (rw (eq-eqb p.number 0 z) at e)))
-
-played_values : (v : ScreenValues) (p : Playing) → played.Accepted v ≡ chip_answer_of p → playing_of (played.Accepted v) ≡ p → v ≡ p.values
+not_played : (r : Refused) (p : Playing) → p.number ≡ 0 → playing_of (Err r) ≡ p → ⊥
 unfolding playing_of
-played_values v p e f = ap (λ (x : Playing). x.values) f
+not_played r p z e = not_zero r (ap (λ (x : Playing). x.number) e ∙ z)
 
 -- an answer whose numbers are a drawing's is the drawing's answer
-refused_answer : (n i : ℕ) (d : Drawing) → (n ≡ 0 → ⊥) → drawing_of (Refused n i) ≡ d → (drawing_of (Refused n i) ≡ d) × (Refused n i ≡ unit_answer_of d)
+refused_answer : (r : Refused) (d : Drawing) → drawing_of (Err r) ≡ d → (drawing_of (Err r) ≡ d) × (Err r ≡ unit_answer_of d)
 unfolding drawing_of unit_answer_of
-refused_answer n i d h e = (e, rw (← e) (rw (ne_eqb n 0 h) refl))
+refused_answer r d e = (e, rw (← e) (sym (refused_with_at _ r _ r.place refl refl)))
 
-accepted_answer : (n : ℕ) (v : ScreenValues) (d : Drawing) → drawing_of (Accepted n v) ≡ d → (drawing_of (Accepted n v) ≡ d) × (Accepted n v ≡ unit_answer_of d)
+accepted_answer : (x : Drawn) (d : Drawing) → drawing_of (Ok x) ≡ d → (drawing_of (Ok x) ≡ d) × (Ok x ≡ unit_answer_of d)
 unfolding drawing_of unit_answer_of
-accepted_answer n v d e = (e, rw (← e) refl)
+accepted_answer x d e = (e, rw (← e) (sym (accepted_at x 0 0 refl)))
 
 -- both cases alike
 alike : (b : Bool) (x : List ℕ) → cond b x x ≡ x
@@ -77,7 +68,7 @@ nothing_drawn m form v room old = simp (no_commands form, alike)
 
 module _ (t : Task) (old memory : List ℕ) where
   -- an answer, a stream buffer and a memory that are what drawing promises
-  abbrev pub Drew : Drawn → List ℕ → List ℕ → Type 0
+  abbrev pub Drew : Result Drawn Refused → List ℕ → List ℕ → Type 0
   Drew r stream new =
       (drawing_of r ≡ drawing memory_size t (length old) memory)
       × ((r ≡ unit_answer_of (drawing memory_size t (length old) memory))
@@ -88,63 +79,65 @@ module _ (t : Task) (old memory : List ℕ) where
   c = compiling memory_size t (length old)
 
   -- a memory of another size
-  pub other_size : (length memory ≡ memory_size → ⊥) → Drew (Refused 18 0) old memory
-  unfolding drawing stream_drawn memory_drawn drawing_of
+  abbrev pub other : Refused
+  other = record { refusal = MemoryLength; place = 0 }
+
+  pub other_size : (length memory ≡ memory_size → ⊥) → Drew (Err other) old memory
+  unfolding drawing stream_drawn memory_drawn drawing_of refusals.number
   other_size n =
       rw (ne_eqb (length memory) memory_size n)
-      (let a = refused_answer 18 0 (refused_by 18 0) (λ z. omega arith) refl in (a.0, (a.1, (refl, refl))))
+      (let a = refused_answer other (refused_by 18 0) refl in (a.0, (a.1, (refl, refl))))
 
   module _ (len : length memory ≡ memory_size) (stream : List ℕ) (buffer : stream ≡ buffer_after memory_size t old) where
     -- compiling refuses
-    pub compile_refused : (n i : ℕ) → compiling_of (compiled.Refused n i) ≡ c → compiled.Refused n i ≡ answer_of c → Drew (Refused n i) stream memory
+    pub compile_refused : (r : Refused) → compiling_of (Err r) ≡ c → Drew (Err r) stream memory
     unfolding drawing stream_drawn memory_drawn drawing_of compiling_of
-    compile_refused n i e f =
-        let some = ne_eqb c.number 0 (refused_number n i c f) in
-        let a = refused_answer n i (refused_by c.number c.place) (λ z. refused_number n i c f (sym (ap (λ (x : Compiling). x.number) e) ∙ z))
-        (λ k. refused_by (e k).number (e k).place) in
+    compile_refused r e =
+        let some = ne_eqb c.number 0 (refused_number r c e) in
+        let a = refused_answer r (refused_by c.number c.place) (λ k. refused_by (e k).number (e k).place) in
         rw (eq-eqb (length memory) memory_size len, some, some) (a.0, (a.1, (buffer, refl)))
 
-    module _ (n d r f : ℕ) (e : compiling_of (compiled.Accepted n d r f) ≡ c) where
+    module _ (x : Compiled) (e : compiling_of (Ok x) ≡ c) where
       none : c.number ≡ 0
       unfolding compiling_of
-      none = sym (ap (λ (x : Compiling). x.number) e)
+      none = sym (ap (λ (k : Compiling). k.number) e)
 
-      size : n ≡ c.length
+      size : x.length ≡ c.length
       unfolding compiling_of
-      size = ap (λ (x : Compiling). x.length) e
+      size = ap (λ (k : Compiling). k.length) e
 
       -- the stream lies in the buffer
-      pub part_fits : n ≤ length stream
+      pub part_fits : x.length ≤ length stream
       unfolding buffer_after stream_of
       part_fits =
           let a = compiled_says memory_size t (length old) none in
           let room : length (stream_bytes (records_in t)) ≤ length old = omega (arith, length_stream (records_in t), a.fits) in
           let kept : length stream ≡ length old = ap length buffer ∙ rw (eq-eqb c.number 0 none) (length_over old (stream_bytes (records_in t)) room) in
-          omega (arith, kept, a.fits, size, ap (λ (x : Compiling). x.length) a.given)
+          omega (arith, kept, a.fits, size, ap (λ (k : Compiling). k.length) a.given)
 
-      module _ (below : InBytes t) (byte-memory : AllBelow 256 memory) (part : List ℕ) (cut : part ≡ take (n - 0) stream) where
+      module _ (below : InBytes t) (byte-memory : AllBelow 256 memory) (part : List ℕ) (cut : part ≡ take (x.length - 0) stream) where
         -- the part that is played is the stream in the length that compiling gave
         given : part ≡ stream_given t old
-        given = cut ∙ ap (λ (k : ℕ). take k stream) (sub-zero n) ∙ (λ k. take (size k) (buffer k))
+        given = cut ∙ ap (λ (k : ℕ). take k stream) (sub-zero x.length) ∙ (λ k. take (size k) (buffer k))
 
         truly : DrawnTruly t old memory
         truly = demand_3 t old memory below byte-memory len none
 
         zero : (playing memory_size part memory).number ≡ 0
-        zero = ap (λ (x : List ℕ). (playing memory_size x memory).number) given ∙ truly.not_refused
+        zero = ap (λ (k : List ℕ). (playing memory_size k memory).number) given ∙ truly.not_refused
 
         -- playing does not refuse
-        pub play_accepts : (k i : ℕ) → played.Refused k i ≡ chip_answer_of (playing memory_size part memory) → ⊥
-        play_accepts k i h = not_played k i (playing memory_size part memory) zero h
+        pub play_accepts : (r : Refused) → playing_of (Err r) ≡ playing memory_size part memory → ⊥
+        play_accepts r h = not_played r (playing memory_size part memory) zero h
 
-        pub draw_accepted : (v : ScreenValues) (new : List ℕ) → playing_of (played.Accepted v) ≡ playing memory_size part memory → new ≡ played memory_size part memory
-            → Drew (Accepted n v) stream new
+        pub draw_accepted : (v : ScreenValues) (new : List ℕ) → playing_of (Ok v) ≡ playing memory_size part memory → new ≡ played memory_size part memory
+            → Drew (Ok (record { length = x.length; values = v })) stream new
         unfolding drawing stream_drawn memory_drawn drawing_of playing_of
         draw_accepted v new p m =
             let values : v ≡ values_of (screen_in t) =
-            ap (λ (x : Playing). x.values) p ∙ ap (λ (x : List ℕ). (playing memory_size x memory).values) given
+            ap (λ (k : Playing). k.values) p ∙ ap (λ (k : List ℕ). (playing memory_size k memory).values) given
             ∙ values_given_lem t old memory below byte-memory len none in
-            let a = accepted_answer n v (record { number = 0; place = 0; length = c.length; values = values_of (screen_in t) })
+            let a = accepted_answer (record { length = x.length; values = v }) (record { number = 0; place = 0; length = c.length; values = values_of (screen_in t) })
             (λ k. record { number = 0; place = 0; length = size k; values = values k }) in
             rw (eq-eqb (length memory) memory_size len, eq-eqb c.number 0 none)
-            (a.0, (a.1, (buffer, m ∙ ap (λ (x : List ℕ). played memory_size x memory) given ∙ truly.same_bytes)))
+            (a.0, (a.1, (buffer, m ∙ ap (λ (k : List ℕ). played memory_size k memory) given ∙ truly.same_bytes)))

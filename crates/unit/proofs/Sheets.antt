@@ -28,7 +28,11 @@ use Rattle.unit.specs.Point.{sheet_point, sheet_line}
 use Rattle.unit.specs.Kept.{is_shown, in_gap, outside}
 use Rattle.unit.specs.Draw.{drawing, memory_drawn, stream_drawn, drawing_of, answer_of, show_rows, showing}
 use Rattle.unit.specs.Cases.{command}
-use Rattle.unit.specs.declared.Drawn.TheVariants.{Accepted, Refused}
+use Rattle.unit.specs.declared.Drawn.{Drawn}
+use Rattle.std.specs.Prelude.{Ok, Err}
+use Rattle.refusal.specs.Number as refusals
+use Rattle.refusal.specs.declared.Refused.{Refused}
+use Rattle.refusal.specs.declared.Refusal.TheVariants.{EmptyRectangle, MemoryLength}
 
 -- ---- pixels of each depth: an image of 8 by 2 from byte 1 on, lines of two bytes at depth 1
 abbrev image : ℕ → Image
@@ -164,12 +168,18 @@ unfolding all_zero first_of record_bytes stream_bytes is_depth byte_of bitwise i
 drawings = refl
 
 -- the numbers of an answer, and the answer with these numbers
-pub answers : (drawing_of (Refused 13 1)
+abbrev empty_1 : Refused
+empty_1 = record { refusal = EmptyRectangle; place = 1 }
+
+abbrev bytes_120 : Drawn
+bytes_120 = record { length = 120; values = values_of (fields_of (screen 8)) }
+
+pub answers : (drawing_of (Err empty_1)
     ≡ record { number = 13; place = 1; length = 0; values = record { main = record { start = 0; offset = 0 }; window = record { start = 0; offset = 0 }; x = 0; y = 0 } })
-    × (answer_of (drawing_of (Refused 13 1)) ≡ Refused 13 1)
-    × (answer_of (drawing 24 (task short_form (screen 8) [] []) 0 []) ≡ Refused 18 0)
-    × (answer_of (drawing_of (Accepted 120 (values_of (fields_of (screen 8))))) ≡ Accepted 120 (values_of (fields_of (screen 8))))
-unfolding drawing drawing_of answer_of
+    × (answer_of (drawing_of (Err empty_1)) ≡ Err empty_1)
+    × (answer_of (drawing 24 (task short_form (screen 8) [] []) 0 []) ≡ Err (record { refusal = MemoryLength; place = 0 }))
+    × (answer_of (drawing_of (Ok bytes_120)) ≡ Ok bytes_120)
+unfolding drawing drawing_of answer_of refusals.answered_at refusals.number refusals.refusal
 answers = (refl, refl, refl, refl)
 
 -- line 1 of the panel: the main image's left half, and the window's second line over its right half; 18 before 1, 1 before 24, and 24

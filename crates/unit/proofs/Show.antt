@@ -11,17 +11,20 @@ use Rattle.record.specs.Lists.{AllBelow}
 use Rattle.record.specs.Checks.{row, first_of, AllPass}
 use Rattle.record.proofs.Checks.{none, first_part, second_part, row_fails, row_passes, rows_end}
 use Rattle.record.proofs.Choice.{and_left, and_right}
-use Rattle.screen.specs.Screen.{memory_size, fields_of, field_rows, screen_rows, screen_of, number_of, main_image}
+use Rattle.screen.specs.Screen.{memory_size, fields_of, field_rows, screen_rows, screen_of, main_image}
 use Rattle.screen.specs.Values.{values_of}
 use Rattle.screen.specs.declared.Screen.{Screen}
 use Rattle.screen.proofs.Read.{screen_numbered, field_numbered, number_is, read_accepted}
 use Rattle.screen.proofs.Fits.{values_pass}
 use Rattle.screen.specs.declared.ScreenValues.{ScreenValues}
-use Rattle.screen.specs.declared.ScreenAnswer.{ScreenAnswer}
-use Rattle.screen.specs.declared.ScreenAnswer.TheVariants as screen
+use Rattle.std.specs.Prelude.{Result, Ok, Err}
+use Rattle.refusal.specs.Number as refusals
+use Rattle.refusal.specs.Number.{number_of}
+use Rattle.refusal.specs.declared.Refusal.{Refusal}
+use Rattle.refusal.specs.declared.Refusal.TheVariants.{MemoryLength}
+use Rattle.refusal.proofs.Numbers.{number_positive}
 use Rattle.reader.specs.Read.{read_rows, refused_point, reading, reading_of, answer_of, display_of}
-use Rattle.reader.specs.declared.PointAnswer.{PointAnswer}
-use Rattle.reader.specs.declared.PointAnswer.TheVariants.{Refused}
+use Rattle.reader.specs.declared.Point.{Point}
 use Rattle.reader.proofs.Answer.{refused_answer, refused_by_lem}
 use Rattle.reader.specs.declared.Display.{Display}
 use Rattle.unit.specs.Draw.{show_rows, showing}
@@ -37,12 +40,12 @@ module _ (bytes : List ℕ) (p q : ℕ) (memory : List ℕ) where
   by_number n h e = rw (← e) (rw (ne_eqb n 0 (λ z. omega arith)) refl)
 
   -- the answer that a point shows, and its numbers
-  abbrev pub Shown : PointAnswer → Type 0
+  abbrev pub Shown : Result Point Refusal → Type 0
   Shown a = (reading_of a ≡ showing memory_size bytes p q memory) × (a ≡ answer_of (showing memory_size bytes p q memory))
 
-  pub show_size : (length memory ≡ memory_size → ⊥) → Shown (Refused 18)
-  unfolding show_rows
-  show_size n = refused_answer 18 _ (lit< tt) (by_number 18 (lit< tt) (row_fails _ (ap not (ne_eqb (length memory) memory_size n))))
+  pub show_size : (length memory ≡ memory_size → ⊥) → Shown (Err MemoryLength)
+  unfolding show_rows refusals.number
+  show_size n = refused_answer MemoryLength _ (by_number 18 (lit< tt) (row_fails _ (ap not (ne_eqb (length memory) memory_size n))))
 
   module _ (len : length memory ≡ memory_size) where
     sized : (x : ℕ) → x ≡ first_of (screen_rows memory_size bytes ++ (row 24 (not (ltb p s.width && ltb q s.height)) ∷ [])) → x ≡ first_of (show_rows memory_size bytes p q memory)
@@ -90,31 +93,20 @@ module _ (bytes : List ℕ) (p q : ℕ) (memory : List ℕ) where
           chosen true e = inside below e
           chosen false e = outside e
 
--- which of the two answers to a screen record
-abbrev is_screen : ScreenAnswer → Bool
-is_screen (screen.Accepted s) = true
-is_screen (screen.Refused n) = false
-
 module _ (bytes : List ℕ) (p q : ℕ) (memory : List ℕ) (len : length memory ≡ memory_size) where
-  -- the screen is refused with a number above 0
-  above : (n : ℕ) → screen_of memory_size bytes ≡ screen.Refused n → first_of (screen_rows memory_size bytes) ≡ 0 → ⊥
-  unfolding screen_of
-  above n e z = true≢false (ap is_screen (rw (eq-eqb (first_of (screen_rows memory_size bytes)) 0 z) at e))
-
-  pub screen_refused : (n : ℕ) → screen_of memory_size bytes ≡ screen.Refused n → Shown bytes p q memory (Refused n)
+  pub screen_refused : (r : Refusal) → screen_of memory_size bytes ≡ Err r → Shown bytes p q memory (Err r)
   unfolding number_of
-  screen_refused n e =
-      let f : n ≡ first_of (screen_rows memory_size bytes) = ap number_of (sym e) ∙ number_is memory_size bytes in
-      let some : 0 < n = omega (arith, f, above n e) in
-      refused_answer n _ some (show_refused bytes p q memory len n some f)
+  screen_refused r e =
+      let f : refusals.number r ≡ first_of (screen_rows memory_size bytes) = ap number_of (sym e) ∙ number_is memory_size bytes in
+      refused_answer r _ (show_refused bytes p q memory len (refusals.number r) (number_positive r) f)
 
-  same_reading : (s : Screen) → screen_of memory_size bytes ≡ screen.Accepted s → AllBelow 256 memory → (d : Display) → d ≡ display_of s → (v : ScreenValues) → v ≡ values_of s
+  same_reading : (s : Screen) → screen_of memory_size bytes ≡ Ok s → AllBelow 256 memory → (d : Display) → d ≡ display_of s → (v : ScreenValues) → v ≡ values_of s
       → reading memory_size d v p q memory ≡ showing memory_size bytes p q memory
   same_reading s e below d ed v ev =
       let a = read_accepted memory_size bytes s e in
       (λ t. reading memory_size ((ed ∙ ap display_of a.0) t) ((ev ∙ ap values_of a.0) t) p q memory)
       ∙ show_reads bytes p q memory len a.1 (subst (λ (x : Screen). first_of (field_rows memory_size x) ≡ 0) a.0 a.2) (subst (λ (x : Screen). x.flag ≤ 1) a.0 a.3) below
 
-  pub screen_accepted : (s : Screen) → screen_of memory_size bytes ≡ screen.Accepted s → AllBelow 256 memory → (d : Display) → d ≡ display_of s → (v : ScreenValues) → v ≡ values_of s
-      → (a : PointAnswer) → reading_of a ≡ reading memory_size d v p q memory → a ≡ answer_of (reading memory_size d v p q memory) → Shown bytes p q memory a
+  pub screen_accepted : (s : Screen) → screen_of memory_size bytes ≡ Ok s → AllBelow 256 memory → (d : Display) → d ≡ display_of s → (v : ScreenValues) → v ≡ values_of s
+      → (a : Result Point Refusal) → reading_of a ≡ reading memory_size d v p q memory → a ≡ answer_of (reading memory_size d v p q memory) → Shown bytes p q memory a
   screen_accepted s e below d ed v ev a f g = let h = same_reading s e below d ed v ev in (f ∙ h, g ∙ ap answer_of h)

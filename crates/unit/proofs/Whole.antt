@@ -27,7 +27,7 @@ use Rattle.chip.specs.Register.{fits, control_fits, command_fits}
 use Rattle.chip.specs.Admit.{chip_after}
 use Rattle.chip.specs.Play.{new_chip}
 use Rattle.chip.specs.declared.Chip.{Chip}
-use Rattle.chip.specs.declared.Run.{Run}
+use Rattle.chip.specs.Play.{Running}
 use Rattle.chip.proofs.Runs.{Admitted, all_admitted}
 use Rattle.chip.proofs.Plays.{Plays, plays_append, new_idle}
 use Rattle.chip.proofs.Commands.{screen_writes_lem, quiet, screen_played}
@@ -118,7 +118,7 @@ admitted_small m c (r ∷ rs) a =
     (f.0, f.1, admitted_small m (chip_after c r) rs a.1)
 
 pub plays_small : (m : ℕ) (c c' : Chip) (rs : List Record) (old new : List ℕ) → Plays m c rs old c' new → Small rs
-plays_small m c c' rs old new p = admitted_small m c rs (all_admitted m c 0 rs (ap (λ (x : Run). x.number) (p.runs 0)))
+plays_small m c c' rs old new p = admitted_small m c rs (all_admitted m c 0 rs (ap (λ (x : Running). x.number) (p.runs 0)))
 
 -- ---- the sheet's bytes are bytes
 byte_below : (k v : ℕ) → byte_of k v < 256

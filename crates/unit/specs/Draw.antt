@@ -1,5 +1,5 @@
 -- Compiling and playing in one call, and reading a point afterwards, in terms of the sheet alone.
-use Rattle.std.specs.Prelude.{ℕ, List, [], ◌∷◌, ◌++◌, not, ◌&&◌, cond, length, eqb, ltb}
+use Rattle.std.specs.Prelude.{ℕ, List, [], ◌∷◌, ◌++◌, not, ◌&&◌, cond, length, Result, Ok, Err, eqb, ltb}
 use Rattle.record.specs.Checks.{Row, row, first_of}
 use Rattle.screen.specs.Screen.{fields_of, screen_rows}
 use Rattle.screen.specs.Values.{values_of}
@@ -11,7 +11,8 @@ use Rattle.reader.specs.Read.{Reading, refused_point}
 use Rattle.unit.specs.Sheet.{sheet_after}
 use Rattle.unit.specs.Point.{sheet_point}
 use Rattle.unit.specs.declared.Drawn.{Drawn}
-use Rattle.unit.specs.declared.Drawn.TheVariants.{Accepted, Refused}
+use Rattle.refusal.specs.Number as refusals
+use Rattle.refusal.specs.declared.Refused.{Refused}
 
 -- what drawing gives back: number, place, the stream's length in bytes, and the six screen values
 pub record Drawing : Type 0 where
@@ -41,19 +42,19 @@ unfoldable pub stream_drawn : ℕ → Task → List ℕ → List ℕ → List �
 stream_drawn m t old memory = cond (eqb (length memory) m) (buffer_after m t old) old
 
 -- 01's numbers of an answer: of a refusal all but number and place are 0
-unfoldable pub drawing_of : Drawn → Drawing
-drawing_of (Accepted n v) = record { number = 0; place = 0; length = n; values = v }
-drawing_of (Refused n i) =
+unfoldable pub drawing_of : Result Drawn Refused → Drawing
+drawing_of (Ok d) = record { number = 0; place = 0; length = d.length; values = d.values }
+drawing_of (Err r) =
     record {
-      number = n;
-      place = i;
+      number = refusals.number r.refusal;
+      place = r.place;
       length = 0;
       values = record { main = record { start = 0; offset = 0 }; window = record { start = 0; offset = 0 }; x = 0; y = 0 };
     }
 
 -- the answer with these numbers
-unfoldable pub answer_of : Drawing → Drawn
-answer_of d = cond (eqb d.number 0) (Accepted d.length d.values) (Refused d.number d.place)
+unfoldable pub answer_of : Drawing → Result Drawn Refused
+answer_of d = refusals.answered_at d.number d.place (record { length = d.length; values = d.values })
 
 -- the checks of a point of a screen: 18, the screen's, then 24
 unfoldable pub show_rows : ℕ → List ℕ → ℕ → ℕ → List ℕ → List Row

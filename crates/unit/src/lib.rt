@@ -1,11 +1,11 @@
 // The unit: compile, play and read, and what they promise together.
 #![tactic(auto)]
 
-use screen::{Origin, ScreenValues};
+use screen::ScreenValues;
 
-// The stream's length in bytes and the six screen values; or the refusal number and its place.
+// What is told of a drawn list: its stream's length in bytes, and the six screen values.
 #[derive(Clone, Copy)]
-pub enum Drawn {
-    Accepted(u64, ScreenValues),
-    Refused(u32, u64),
+pub struct Drawn {
+    pub length: u64,
+    pub values: ScreenValues,
 }

@@ -26,8 +26,12 @@ use Rattle.wear.specs.Font.{digits_of}
 use Rattle.wear.specs.Strip.{digits_in, Strip, strip_with, strip_for, column, columns, writes, strip_commands, list_bytes, strip_list, strip_words, all_in_reach, ask_rows, strip_rows, Stripping, stripping, list_after, words_after, stripping_of, answer_of}
 use Rattle.wear.specs.Limits.{Checked, Drawable, command_count}
 use Rattle.wear.specs.declared.Ask.{Ask}
-use Rattle.wear.specs.declared.StripAnswer.{StripAnswer}
-use Rattle.wear.specs.declared.StripAnswer.TheVariants.{Made, Refused}
+use Rattle.std.specs.Prelude.{Result, Ok, Err}
+use Rattle.refusal.specs.Number as refusals
+use Rattle.refusal.specs.Number.{number}
+use Rattle.refusal.specs.declared.Refusal.{Refusal}
+use Rattle.refusal.proofs.Numbers.{number_positive, accepted, refused_with}
+use Rattle.wear.specs.declared.Made.{Made}
 use Rattle.wear.proofs.Fonts.{digits_low, digits_count}
 use Rattle.wear.proofs.Words.{digit_words_count}
 
@@ -200,34 +204,37 @@ unfolding strip_rows
 faulty t room wordRoom n e h = first_part (ask_rows t.ask (length t.factory)) _ (omega (arith, e, h)) ∙ sym e
 
 module _ (t : Strip) (list words : List ℕ) where
-  -- refused by n, nothing is stored
-  module _ (n : ℕ) (e : first_of (strip_rows t (length list) (length words)) ≡ n) (h : n ≡ 0 → ⊥) where
-    pub refused_numbers : stripping_of (Refused n) ≡ stripping t (length list) (length words)
-    unfolding stripping_of stripping
-    refused_numbers = rw (e, ne_eqb n 0 h)
+  -- refused, nothing is stored
+  module _ (r : Refusal) (e : first_of (strip_rows t (length list) (length words)) ≡ number r) where
+    some : number r ≡ 0 → ⊥
+    some z = let p = number_positive r in omega (arith, p)
 
-    refused_number : (stripping t (length list) (length words)).number ≡ n
+    pub refused_numbers : stripping_of (Err r) ≡ stripping t (length list) (length words)
+    unfolding stripping_of stripping
+    refused_numbers = rw (e, ne_eqb (number r) 0 some)
+
+    refused_number : (stripping t (length list) (length words)).number ≡ number r
     unfolding stripping_of
     refused_number = ap (λ (s : Stripping). s.number) (sym refused_numbers)
 
     pub refused_list : list ≡ list_after t list words
     unfolding list_after
-    refused_list = rw (refused_number, ne_eqb n 0 h)
+    refused_list = rw (refused_number, ne_eqb (number r) 0 some)
 
     pub refused_words : words ≡ words_after t list words
     unfolding words_after
-    refused_words = rw (refused_number, ne_eqb n 0 h)
+    refused_words = rw (refused_number, ne_eqb (number r) 0 some)
 
-    pub refused_answer : Refused n ≡ answer_of (stripping t (length list) (length words))
-    unfolding answer_of stripping_of
-    refused_answer = rw (← refused_numbers, ne_eqb n 0 h)
+    pub refused_answer : Err r ≡ answer_of (stripping t (length list) (length words))
+    unfolding answer_of
+    refused_answer = sym (refused_with _ r _ (sym refused_number))
 
-    pub refused_strip : (stripping_of (Refused n) ≡ stripping t (length list) (length words)) × ((list ≡ list_after t list words) × (words ≡ words_after t list words))
+    pub refused_strip : (stripping_of (Err r) ≡ stripping t (length list) (length words)) × ((list ≡ list_after t list words) × (words ≡ words_after t list words))
     refused_strip = (refused_numbers, (refused_list, refused_words))
 
   -- made: both buffers hold the result and what lies past it
   module _ (e : first_of (strip_rows t (length list) (length words)) ≡ 0) where
-    pub made_numbers : (bytes count : ℕ) → bytes ≡ length (strip_list t) → count ≡ length (strip_words t) → stripping_of (Made bytes count) ≡ stripping t (length list) (length words)
+    pub made_numbers : (bytes count : ℕ) → bytes ≡ length (strip_list t) → count ≡ length (strip_words t) → stripping_of (Ok (record { bytes = bytes; words = count })) ≡ stripping t (length list) (length words)
     unfolding stripping_of stripping
     made_numbers bytes count p q = rw (e, p, q)
 
@@ -243,24 +250,10 @@ module _ (t : Strip) (list words : List ℕ) where
     unfolding words_after
     made_words new s h = rw made_number (s ∙ sets_over words (strip_words t) h)
 
-  -- number 0 is of no failing row
-  number_none : (k : ℕ) → first_of (strip_rows t (length list) (length words)) ≡ k → (stripping t (length list) (length words)).number ≡ 0 → k ≡ 0
-  unfolding stripping
-  number_none zero q u = refl
-  number_none (suc k) q u = absurd (omega (arith, (rw (q, ne_eqb (suc k) 0 (λ z. omega arith)) at u)))
-
-  -- with a command, the numbers say which answer it was
-  not_zero : (n : ℕ) → 0 < length (strip_list t) → stripping_of (Refused n) ≡ stripping t (length list) (length words) → n ≡ 0 → ⊥
-  unfolding stripping_of
-  not_zero n h e z =
-      let f : first_of (strip_rows t (length list) (length words)) ≡ 0 = number_none (first_of (strip_rows t (length list) (length words))) refl (sym (ap (λ (s : Stripping). s.number) e) ∙ z) in
-      let b : 0 ≡ length (strip_list t) = ap (λ (s : Stripping). s.bytes) (e ∙ sym (made_numbers f (length (strip_list t)) (length (strip_words t)) refl refl)) in
-      omega (arith, h, b)
-
-  pub answered : (r : StripAnswer) → 0 < length (strip_list t) → stripping_of r ≡ stripping t (length list) (length words) → r ≡ answer_of (stripping t (length list) (length words))
+  pub answered : (r : Result Made Refusal) → stripping_of r ≡ stripping t (length list) (length words) → r ≡ answer_of (stripping t (length list) (length words))
   unfolding answer_of stripping_of
-  answered (Made bytes count) h e = rw (← e)
-  answered (Refused n) h e = rw (← e, ne_eqb n 0 (not_zero n h e))
+  answered (Ok m) e = rw (← e) (sym (accepted m 0 refl))
+  answered (Err r) e = rw (← e) (sym (refused_with _ r (number r) refl))
 
 -- ---- room that is asked for at most
 pub count_most : (hs : List ℕ) → command_count hs ≤ 2 * length hs
@@ -350,21 +343,11 @@ module _ (a : Ask) (heights digits site factory : List ℕ) where
       → bytes ≡ 32 * (command_count heights + length digits) → w ≡ 8 * line_words a.depth 8 → count ≡ length digits * w
       → length (strip_list strip) ≤ length list → length (strip_words strip) ≤ length words
       → l1 ≡ sets list 0 (list_bytes (columns a 0 heights)) → at ≡ length (list_bytes (columns a 0 heights)) → l2 ≡ sets l1 at (list_bytes (writes a 0 digits)) → new ≡ sets words 0 (strip_words strip)
-      → (stripping_of (Made bytes count) ≡ stripping strip (length list) (length words)) × ((l2 ≡ list_after strip list words) × (new ≡ words_after strip list words))
+      → (stripping_of (Ok (record { bytes = bytes; words = count })) ≡ stripping strip (length list) (length words)) × ((l2 ≡ list_after strip list words) × (new ≡ words_after strip list words))
   whole_strip list words l1 l2 new at bytes count w m b d k h v f g i j = (
     made_numbers strip list words m bytes count (b ∙ sym strip_bytes) (k ∙ ap (λ (x : ℕ). length digits * x) d ∙ sym (digit_words_count a site factory digits)),
     (made_list strip list words m l2 (strip_stored list l1 l2 at f g i) h, made_words strip list words m new j v),
   )
-
--- a strip with an hour has a command
-pub some_bytes : (a : Ask) (heights digits site factory : List ℕ) → 1 ≤ length heights → 0 < length (strip_list (strip_with a heights digits site factory))
-unfolding command_count
-some_bytes a [] digits site factory h = absurd (omega arith)
-some_bytes a (x ∷ heights) digits site factory h = omega (arith, strip_bytes a (x ∷ heights) digits site factory, one (eqb x 0))
-  where
-    one : (t : Bool) → 1 ≤ cond t 1 2
-    one true = omega arith
-    one false = omega arith
 
 -- ---- the strip of a ring
 pub ring_drawable : (r : Ring) (n : ℕ) → n ≤ 24 → Drawable (heights_of r n)
@@ -377,18 +360,18 @@ pub digits_few : (any newest : ℕ) → length (digits_in any newest) ≤ 5
 digits_few any newest = both_ways (λ (l : List ℕ). length l ≤ 5) (eqb any 0) [] (digits_of newest) (λ e. omega arith) (λ e. digits_count 5 newest)
 
 -- an answer, and both buffers afterwards, are those of a strip
-abbrev StripIs : Strip → List ℕ → List ℕ → StripAnswer → List ℕ → List ℕ → Type 0
+abbrev StripIs : Strip → List ℕ → List ℕ → Result Made Refusal → List ℕ → List ℕ → Type 0
 StripIs t list words r l w =
     (stripping_of r ≡ stripping t (length list) (length words))
     × ((r ≡ answer_of (stripping t (length list) (length words))) × ((l ≡ list_after t list words) × (w ≡ words_after t list words)))
 
-pub strip_faulty : (t : Strip) (list words : List ℕ) (n : ℕ) → n ≡ first_of (ask_rows t.ask (length t.factory)) → (n ≡ 0 → ⊥) → StripIs t list words (Refused n) list words
-strip_faulty t list words n e h =
-    let f = faulty t (length list) (length words) n e h in
-    (refused_numbers t list words n f h, (refused_answer t list words n f h, (refused_list t list words n f h, refused_words t list words n f h)))
+pub strip_faulty : (t : Strip) (list words : List ℕ) (r : Refusal) → number r ≡ first_of (ask_rows t.ask (length t.factory)) → StripIs t list words (Err r) list words
+strip_faulty t list words r e =
+    let f = faulty t (length list) (length words) (number r) e (λ z. let p = number_positive r in omega (arith, p)) in
+    (refused_numbers t list words r f, (refused_answer t list words r f, (refused_list t list words r f, refused_words t list words r f)))
 
 pub strip_of : (r : Ring) (a : Ask) (site factory list words hs ds : List ℕ) → hs ≡ heights_of r a.hours → ds ≡ digits_in r.any r.newest → 1 ≤ a.hours
-    → (answer : StripAnswer) (l w : List ℕ)
+    → (answer : Result Made Refusal) (l w : List ℕ)
     → (stripping_of answer ≡ stripping (strip_with a hs ds site factory) (length list) (length words))
     × ((l ≡ list_after (strip_with a hs ds site factory) list words) × (w ≡ words_after (strip_with a hs ds site factory) list words))
     → StripIs (strip_for r a site factory) list words answer l w
@@ -397,7 +380,7 @@ strip_of r a site factory list words hs ds p q h answer l w e =
     let n = e.0 ∙ ap (λ (s : Strip). stripping s (length list) (length words)) t in (
       n,
       (
-        answered (strip_for r a site factory) list words answer (some_bytes a (heights_of r a.hours) (digits_in r.any r.newest) site factory (omega (arith, h, heights_count r a.hours))) n,
+        answered (strip_for r a site factory) list words answer n,
         (e.1.0 ∙ ap (λ (s : Strip). list_after s list words) t, e.1.1 ∙ ap (λ (s : Strip). words_after s list words) t),
       ),
     )

@@ -13,7 +13,9 @@ use Rattle.wear.specs.Font.{finding, glyph_of, glyph_bit, last_decimal_digits}
 use Rattle.wear.specs.Strip.{ask_with, digits_in, Strip, strip_with, strip_for, column, columns, writes, strip_commands, list_bytes, strip_list, glyph_colour, glyph_word, glyph_words, digit_words, strip_words, all_in_reach, ask_rows, strip_rows, stripping, list_after, words_after, stripping_of, answer_of}
 use Rattle.wear.specs.Limits.{command_count}
 use Rattle.wear.specs.declared.Ask.{Ask}
-use Rattle.wear.specs.declared.StripAnswer.TheVariants.{Made, Refused}
+use Rattle.std.specs.Prelude.{Ok, Err}
+use Rattle.refusal.specs.Number as refusals
+use Rattle.refusal.specs.declared.Refusal.TheVariants.{Room, WearRange}
 
 abbrev command : ℕ → ℕ → ℕ → ℕ → ℕ → ℕ → ℕ → Command
 command operation raster x y width height colour =
@@ -185,9 +187,9 @@ pub buffer_cases : (drop 64 (list_after (strip_at one (0 ∷ []) (0 ∷ [])) (re
 unfolding is_depth first_of command_bytes line_words finding glyph_of glyph_bit glyph_colour glyph_word glyph_words column columns writes strip_commands list_bytes digit_words all_in_reach ask_rows strip_rows stripping list_after words_after
 buffer_cases = (refl, refl, refl, refl, refl)
 
-pub answer_cases : (stripping_of (Made 96 32) ≡ record { number = 0; bytes = 96; words = 32 })
-    × (stripping_of (Refused 17) ≡ record { number = 17; bytes = 0; words = 0 })
-    × (answer_of (record { number = 0; bytes = 96; words = 32 }) ≡ Made 96 32)
-    × (answer_of (record { number = 27; bytes = 0; words = 0 }) ≡ Refused 27)
-unfolding stripping_of answer_of
+pub answer_cases : (stripping_of (Ok (record { bytes = 96; words = 32 })) ≡ record { number = 0; bytes = 96; words = 32 })
+    × (stripping_of (Err Room) ≡ record { number = 17; bytes = 0; words = 0 })
+    × (answer_of (record { number = 0; bytes = 96; words = 32 }) ≡ Ok (record { bytes = 96; words = 32 }))
+    × (answer_of (record { number = 27; bytes = 0; words = 0 }) ≡ Err WearRange)
+unfolding stripping_of answer_of refusals.answered refusals.number refusals.refusal
 answer_cases = (refl, refl, refl, refl)

@@ -1,10 +1,12 @@
 -- Fonts (02, f: "8 × 8 glyphs (digits 0 to 9, 8 bytes each, top row first, highest bit left"), and which of two a digit's glyph is lent from.
-use Rattle.std.specs.Prelude.{ℕ, zero, suc, ◌+◌, ◌-◌, ◌*◌, ◌/◌, ◌%◌, ◌^◌, Bool, ◌||◌, cond, List, [], ◌∷◌, ◌++◌, length, take, drop, leb, ltb, eqb}
+use Rattle.std.specs.Prelude.{ℕ, zero, suc, ◌+◌, ◌-◌, ◌*◌, ◌/◌, ◌%◌, ◌^◌, Bool, ◌||◌, cond, List, [], ◌∷◌, ◌++◌, length, take, drop, Result, Ok, Err, leb, ltb, eqb}
 use Rattle.std.specs.Borrow.{Bor}
 use Rattle.record.specs.Bytes.{byte_at}
 use Rattle.record.specs.Part.{IsPart}
-use Rattle.wear.specs.declared.GlyphAnswer.{GlyphAnswer}
-use Rattle.wear.specs.declared.GlyphAnswer.TheVariants.{Site, Factory, Refused}
+use Rattle.refusal.specs.Number as refusals
+use Rattle.refusal.specs.declared.Refusal.{Refusal}
+use Rattle.wear.specs.declared.Glyph.{Glyph}
+use Rattle.wear.specs.declared.Glyph.TheVariants.{Site, Factory}
 
 -- 0 or why there is no glyph; whether it is the site font's (1, else 0); where it starts there, and its bytes
 pub record Finding : Type 0 where
@@ -44,10 +46,10 @@ unfoldable pub glyph_bit : List ℕ → ℕ → ℕ → ℕ
 glyph_bit glyph i j = byte_at glyph j / 2 ^ (7 - i) % 2
 
 -- the numbers of an answer
-unfoldable pub finding_of : GlyphAnswer → Finding
-finding_of (Site at) = record { number = 0; site = 1; at = at; length = 8 }
-finding_of (Factory at) = record { number = 0; site = 0; at = at; length = 8 }
-finding_of (Refused n) = record { number = n; site = 0; at = 0; length = 0 }
+unfoldable pub finding_of : Result Glyph Refusal → Finding
+finding_of (Ok (Site at)) = record { number = 0; site = 1; at = at; length = 8 }
+finding_of (Ok (Factory at)) = record { number = 0; site = 0; at = at; length = 8 }
+finding_of (Err r) = record { number = refusals.number r; site = 0; at = 0; length = 0 }
 
 -- a number's last digits, at most k, without leading zeros; the number 0 is the one digit 0
 unfoldable pub last_decimal_digits : ℕ → ℕ → List ℕ

@@ -1,5 +1,5 @@
 -- The wear strip (02, f): the commands and host words that draw the last hours on the main image, and the newest number below them.
-use Rattle.std.specs.Prelude.{ℕ, suc, ◌+◌, ◌-◌, ◌*◌, ◌/◌, ◌%◌, Bool, true, not, ◌&&◌, ◌||◌, cond, List, [], ◌∷◌, ◌++◌, length, leb, ltb, eqb}
+use Rattle.std.specs.Prelude.{Result, Ok, Err, ℕ, suc, ◌+◌, ◌-◌, ◌*◌, ◌/◌, ◌%◌, Bool, true, not, ◌&&◌, ◌||◌, cond, List, [], ◌∷◌, ◌++◌, length, leb, ltb, eqb}
 use Rattle.record.specs.Bytes.{over}
 use Rattle.record.specs.Lists.{tabulate}
 use Rattle.record.specs.Checks.{Row, row, first_of}
@@ -10,8 +10,9 @@ use Rattle.ring.specs.Kept.{heights_of}
 use Rattle.ring.specs.declared.Ring.{Ring}
 use Rattle.wear.specs.Font.{is_factory, glyph_of, glyph_bit, digits_of}
 use Rattle.wear.specs.declared.Ask.{Ask}
-use Rattle.wear.specs.declared.StripAnswer.{StripAnswer}
-use Rattle.wear.specs.declared.StripAnswer.TheVariants.{Made, Refused}
+use Rattle.refusal.specs.Number as refusals
+use Rattle.refusal.specs.declared.Refusal.{Refusal}
+use Rattle.wear.specs.declared.Made.{Made}
 
 -- what a caller asks for
 abbrev pub ask_with : ℕ → ℕ → ℕ → ℕ → ℕ → ℕ → ℕ → Ask
@@ -155,10 +156,10 @@ unfoldable pub words_after : Strip → List ℕ → List ℕ → List ℕ
 words_after t list words = buffer_with (stripping t (length list) (length words)) (strip_words t) words
 
 -- the numbers of an answer: of a refusal both lengths are 0
-unfoldable pub stripping_of : StripAnswer → Stripping
-stripping_of (Made bytes words) = record { number = 0; bytes = bytes; words = words }
-stripping_of (Refused n) = record { number = n; bytes = 0; words = 0 }
+unfoldable pub stripping_of : Result Made Refusal → Stripping
+stripping_of (Ok m) = record { number = 0; bytes = m.bytes; words = m.words }
+stripping_of (Err r) = record { number = refusals.number r; bytes = 0; words = 0 }
 
 -- the answer with these numbers
-unfoldable pub answer_of : Stripping → StripAnswer
-answer_of s = cond (eqb s.number 0) (Made s.bytes s.words) (Refused s.number)
+unfoldable pub answer_of : Stripping → Result Made Refusal
+answer_of s = refusals.answered s.number (record { bytes = s.bytes; words = s.words })

@@ -13,19 +13,18 @@ pub struct Ask {
     pub background: u16,
 }
 
-// The bytes of the list and the count of the words; or the refusal number.
+// What is told of a strip: the bytes of its list, and how many host words it has.
 #[derive(Clone, Copy)]
-pub enum StripAnswer {
-    Made(u64, u64),
-    Refused(u32),
+pub struct Made {
+    pub bytes: u64,
+    pub words: u64,
 }
 
-// Where a glyph stands, in the site font or in the factory font; or the refusal number.
+// Where a glyph stands: in the site font or in the factory font, from which byte on.
 #[derive(Clone, Copy)]
-pub enum GlyphAnswer {
+pub enum Glyph {
     Site(u64),
     Factory(u64),
-    Refused(u32),
 }
 
 // A number's decimal digits, highest first, and how many they are.
