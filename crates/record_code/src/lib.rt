@@ -5,9 +5,11 @@ ghost use Rattle.std.specs.Prelude.{◌≡◌, ◌+◌, ◌-◌, ◌*◌, ◌/�
 ghost use Rattle.std.proofs.lemmas.List.Edits.{sets};
 ghost use Rattle.record.specs.Bytes.{u16_at, u24_at, u32_at, four_bytes, all_zero};
 ghost use Rattle.record.specs.Record.{record_bytes, record_at};
-ghost use Rattle.record.specs.Checks.{rows_with, any_of, first_of};
+ghost use Rattle.record.specs.Checks.{any_of, first_of};
+ghost use Rattle.refusal.specs.Number.{number_of, rows_by, found_by};
 
 use record::Record;
+use refusal::Refusal;
 
 // A byte as a wider number.
 pub fn wide(x: u8) -> u32
@@ -114,28 +116,27 @@ pub fn least(a: usize, b: usize) -> usize
 }
 
 // Whether one of the checks found something.
-fn any_of(fails: &[bool]) -> bool
-    ensures { result ≡ any_of fails.now }
+fn any_of(checks: &[(Refusal, bool)]) -> bool
+    ensures { result ≡ any_of (found_by checks.now) }
 {
     let mut any = false;
-    for x in fails {
-        any |= *x;
+    for (_, found) in checks {
+        any |= *found;
     }
     any
 }
 
-// The number of the first check that fails; 0 where none does, which is asked of all at once.
-pub fn first_of(numbers: &[u32], fails: &[bool]) -> u32
-    requires { length numbers.now ≡ length fails.now }
-    ensures { result ≡ first_of (rows_with numbers.now fails.now) }
+// The refusal of the first check that found something, which is asked of all at once.
+pub fn first_of(checks: &[(Refusal, bool)]) -> Result<(), Refusal>
+    ensures { number_of result ≡ first_of (rows_by checks.now) }
 {
-    if !any_of(fails) {
-        return 0;
+    if !any_of(checks) {
+        return Ok(());
     }
-    for (number, found) in numbers.iter().zip(fails) {
+    for (refusal, found) in checks {
         if *found {
-            return *number;
+            return Err(*refusal);
         }
     }
-    0
+    Ok(())
 }

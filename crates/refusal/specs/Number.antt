@@ -102,3 +102,8 @@ rows_by (c ∷ cs) = row (number c.0) c.1 ∷ rows_by cs
 -- x is the refusal r, and names no place
 abbrev pub Nowhere : Refusal → Refused → Type 0
 Nowhere r x = x ≡ record { refusal = r; place = 0 }
+
+-- what the checks found
+unfoldable pub found_by : List (Refusal × Bool) → List Bool
+found_by [] = []
+found_by (c ∷ cs) = c.1 ∷ found_by cs

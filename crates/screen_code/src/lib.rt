@@ -4,9 +4,11 @@
 ghost use Rattle.std.specs.Prelude.{◌≡◌, length};
 ghost use Rattle.record.specs.Checks.{first_of};
 ghost use Rattle.screen.specs.Image.{line_bytes, line_pixels, image_end};
-ghost use Rattle.screen.specs.Screen.{fields_of, well_formed, panel_ok, quarter, view_width, view_height, whole_dwords, main_image, window_image, line_ok, image_ok, window_ok, window_whole, field_rows, screen_rows, screen_of, number_of, memory_size};
+ghost use Rattle.screen.specs.Screen.{fields_of, well_formed, panel_ok, quarter, view_width, view_height, whole_dwords, main_image, window_image, line_ok, image_ok, window_ok, window_whole, field_rows, screen_rows, screen_of, memory_size};
+ghost use Rattle.refusal.specs.Number.{number_of};
 
-use screen::{Image, Screen, ScreenAnswer, Window};
+use refusal::Refusal;
+use screen::{Image, MEMORY_SIZE, Screen, Window};
 
 // The record's fields.
 fn fields(b: &[u8]) -> Screen
@@ -170,52 +172,45 @@ fn is_window_whole(s: Screen) -> bool
     is_whole(s.depth as u32, w.x as u32) & is_whole(s.depth as u32, w.width as u32)
 }
 
-// The numbers of the checks of a screen's fields, in their order.
-const FIELD_CHECKS: [u32; 10] = [2, 3, 4, 5, 26, 6, 7, 8, 26, 9];
-
-// The first of these that a screen's fields give in a memory of so many bytes; 0 for none.
-fn first_fault(memory: u64, s: Screen) -> u32
-    ensures { result ≡ first_of (field_rows memory s) }
+// The first refusal that a screen's fields give in a memory of so many bytes.
+fn check_fields(memory: u64, s: Screen) -> Result<(), Refusal>
+    ensures { number_of result ≡ first_of (field_rows memory s) }
 {
     let main = main_image(s);
     let window = window_image(s);
     let w = s.window;
     let windowed = s.flag == 1;
-    let fails = [
-        !pixel_code::is_depth(s.depth as u32),
-        3 < s.rotation,
-        !is_panel(s.width as u32, s.height as u32),
-        !is_whole(s.depth as u32, main.width as u32),
-        !is_line(s.depth, s.line, main.width),
-        !is_image(memory, s.depth, main),
-        windowed & !is_window(s),
-        windowed & !is_window_whole(s),
-        windowed & !is_line(s.depth, w.line, w.width),
-        windowed & !is_image(memory, s.depth, window),
-    ];
-    record_code::first_of(&FIELD_CHECKS, &fails)
+    record_code::first_of(&[
+        (Refusal::Depth, !pixel_code::is_depth(s.depth as u32)),
+        (Refusal::Rotation, 3 < s.rotation),
+        (Refusal::Panel, !is_panel(s.width as u32, s.height as u32)),
+        (Refusal::ViewWidth, !is_whole(s.depth as u32, main.width as u32)),
+        (Refusal::LineLength, !is_line(s.depth, s.line, main.width)),
+        (Refusal::MainImage, !is_image(memory, s.depth, main)),
+        (Refusal::WindowPlace, windowed & !is_window(s)),
+        (Refusal::WindowDwords, windowed & !is_window_whole(s)),
+        (Refusal::LineLength, windowed & !is_line(s.depth, w.line, w.width)),
+        (Refusal::WindowImage, windowed & !is_image(memory, s.depth, window)),
+    ])
 }
 
-// The screen that a record says in a memory of so many bytes, or the first refusal number of 1 to 9 and 26.
-pub fn read_screen_in(memory: u64, bytes: &[u8]) -> ScreenAnswer
+// The screen that a record says in a memory of so many bytes, or the first refusal of 1 to 9 and 26.
+pub fn read_screen_in(memory: u64, bytes: &[u8]) -> Result<Screen, Refusal>
     ensures value { result ≡ screen_of memory bytes.now }
     ensures result_value { number_of result ≡ first_of (screen_rows memory bytes.now) }
 {
     if !is_well_formed(bytes) {
-        return ScreenAnswer::Refused(1);
+        return Err(Refusal::ScreenRecord);
     }
     let s = fields(bytes);
-    let n = first_fault(memory, s);
-    if n == 0 {
-        return ScreenAnswer::Accepted(s);
-    }
-    ScreenAnswer::Refused(n)
+    check_fields(memory, s)?;
+    Ok(s)
 }
 
 // The same in the S1D13A05's memory.
-pub fn read_screen(bytes: &[u8]) -> ScreenAnswer
+pub fn read_screen(bytes: &[u8]) -> Result<Screen, Refusal>
     ensures value { result ≡ screen_of memory_size bytes.now }
     ensures result_value { number_of result ≡ first_of (screen_rows memory_size bytes.now) }
 {
-    read_screen_in(262144, bytes)
+    read_screen_in(MEMORY_SIZE, bytes)
 }

@@ -1,9 +1,10 @@
--- What is found before x and what is found from x on are all that is found.
+-- What is found before a check and what is found from it on are all that is found.
 use mathlib.Core.Path.{◌≡◌}
 use mathlib.Core.Bool.{◌||◌}
 use lib.ListN.{drop}
 use Rattle.record.specs.Checks.{any_of}
+use Rattle.refusal.specs.Number.{found_by}
 use Rattle.record_code.proofs.any_of.Given as goal
 
-abbrev pub invariant-loop-x : goal.invariant-loop-x
-invariant-loop-x l = any_of l.fails ≡ l.any || any_of (drop l.x-index l.fails)
+abbrev pub invariant-loop-found : goal.invariant-loop-found
+invariant-loop-found l = any_of (found_by l.checks) ≡ l.any || any_of (found_by (drop l.found-index l.checks))

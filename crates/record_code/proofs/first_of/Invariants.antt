@@ -1,7 +1,9 @@
--- The checks so far have passed: the rows that are left decide.
+-- The checks so far have passed: those that are left decide.
 use mathlib.Core.Path.{◌≡◌}
-use Rattle.record.specs.Checks.{rows_with, first_of}
+use lib.ListN.{drop}
+use Rattle.record.specs.Checks.{first_of}
+use Rattle.refusal.specs.Number.{rows_by}
 use Rattle.record_code.proofs.first_of.Given as goal
 
-abbrev pub invariant-loop-number : goal.invariant-loop-number
-invariant-loop-number l = first_of (rows_with l.numbers l.fails) ≡ first_of (rows_with l.number-iterator.a.rest.now l.number-iterator.b.rest.now)
+abbrev pub invariant-loop-refusal : goal.invariant-loop-refusal
+invariant-loop-refusal l = first_of (rows_by l.checks) ≡ first_of (rows_by (drop l.refusal-index l.checks))
