@@ -5,17 +5,15 @@ use mathlib.Core.List.{List, [], ◌∷◌}
 use native.Mathlib.Nat.{sub-zero, zero-add, sub-add-eq}
 use native.Mathlib.Omega.{arith}
 use lib.ListN.{length, take, drop}
-use borrow.Author.Tests.{ne_eqb}
 use Rattle.record.specs.Lists.{parts_from, parts_of}
 use Rattle.record.proofs.Lists.{parts_step, parts_end}
 use Rattle.screen.specs.declared.Screen.{Screen}
 use Rattle.command.specs.Command.{command_of, words_taken, command_answer}
 use Rattle.command.specs.Task.{first_refusal, all_words}
 use Rattle.command.specs.declared.Command.{Command}
-use Rattle.std.specs.Prelude.{Result, Ok, Err}
+use Rattle.std.specs.Prelude.{Ok, Err}
 use Rattle.refusal.specs.Number as refusals
 use Rattle.refusal.specs.declared.Refusal.{Refusal}
-use Rattle.refusal.specs.declared.Refused.{Refused}
 use Rattle.refusal.proofs.Numbers.{accepted_at, refused_with_at}
 use Rattle.command.proofs.Answer.{command_accepted, command_refused}
 use Rattle.command.proofs.Fine.{fine}

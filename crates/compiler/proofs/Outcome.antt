@@ -1,13 +1,13 @@
 -- What compiling tells, check by check.
 use Prim.Native.Nat.{ℕ, ◌+◌, ◌*◌, ◌/◌, ◌<◌, ◌≤◌}
-use mathlib.Core.Path.{◌≡◌, refl, sym, ap, subst, ◌∙◌}
+use mathlib.Core.Path.{◌≡◌, sym, ap, subst, ◌∙◌}
 use mathlib.Core.List.{List, ◌++◌}
-use mathlib.Core.Bool.{Bool, true, false, cond}
+use mathlib.Core.Bool.{true}
 use native.Mathlib.Omega.{arith}
 use lib.ListN.{length, length-append}
 use lib.Seq.{sets, length-sets}
-use lib.Dec.{eqb, lit<}
-use borrow.Author.Tests.{eqb-false, ne_eqb, ltb-false, lt-ltb, le-ltb}
+use lib.Dec.{lit<}
+use borrow.Author.Tests.{ne_eqb, ltb-false, lt-ltb, le-ltb}
 use Rattle.record.specs.Record.{stream_bytes}
 use Rattle.record.specs.Checks.{row, first_of, Refusal}
 use Rattle.record.proofs.Checks.{passed, row_fails, row_passes, rows_end}

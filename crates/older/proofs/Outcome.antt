@@ -24,7 +24,6 @@ use Rattle.std.specs.Prelude.{Result, Ok, Err}
 use Rattle.refusal.specs.Number as refusals
 use Rattle.refusal.specs.declared.Refusal.{Refusal}
 use Rattle.refusal.specs.declared.Refused.{Refused}
-use Rattle.refusal.proofs.Numbers.{number_positive}
 use Rattle.compiler.proofs.Answered.{ToldBy, answered_number, answered_place, answered_accepted, refused_by_lem, accepted_by}
 use Rattle.compiler.proofs.Outcome.{refused_screen, at_0}
 use Rattle.older.specs.Bytes.{older_memory, older_bytes}

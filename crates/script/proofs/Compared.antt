@@ -8,7 +8,6 @@ use borrow.Author.Tests.{eqb-true, eq-eqb}
 use Rattle.std.specs.Prelude.{Result, Ok, Err}
 use Rattle.refusal.specs.declared.Refused.{Refused}
 use Rattle.refusal.specs.declared.Refusal.{Refusal}
-use Rattle.refusal.specs.Number as refusals
 use Rattle.record.proofs.Choice.{and_left, and_right, and_go}
 use Rattle.screen.specs.Screen.{memory_size}
 use Rattle.screen.specs.declared.ScreenValues.{ScreenValues}

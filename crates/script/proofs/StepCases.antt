@@ -3,10 +3,8 @@ use Prim.Native.Nat.{ℕ}
 use mathlib.Core.Path.{◌≡◌, refl}
 use mathlib.Core.List.{List, [], ◌∷◌, ◌++◌, map}
 use lib.ListN.{length, take, replicate}
-use Rattle.std.specs.Prelude.{Result, Ok, Err}
+use Rattle.std.specs.Prelude.{Result, Ok}
 use Rattle.refusal.specs.declared.Refused.{Refused}
-use Rattle.refusal.specs.declared.Refusal.{Refusal}
-use Rattle.refusal.specs.Number as refusals
 use Rattle.screen.specs.Screen.{memory_size}
 use Rattle.command.specs.Task.{short_form, long_form, task}
 use Rattle.compiler.specs.Compile.{compiling, buffer_after, compiling_of, answer_of as compiledFrom}

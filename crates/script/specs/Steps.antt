@@ -3,10 +3,8 @@
 --
 -- The desk holds the screen record, from byte 32 on a command with room for the long form, at 80 how many commands there are (0 or 1), at 84
 -- how many host words, and at 88 whether the list is in the long form.
-use Rattle.std.specs.Prelude.{Result, Ok, Err}
+use Rattle.std.specs.Prelude.{Result}
 use Rattle.refusal.specs.declared.Refused.{Refused}
-use Rattle.refusal.specs.declared.Refusal.{Refusal}
-use Rattle.refusal.specs.Number as refusals
 use Rattle.std.specs.Prelude.{ℕ, ◌*◌, ◌%◌, List, [], ◌∷◌, Bool, ◌||◌, cond, take, drop, replicate, eqb}
 use Rattle.screen.specs.Screen.{memory_size}
 use Rattle.command.specs.Task.{short_form, long_form, Task, task}

@@ -1,6 +1,6 @@
 -- Drawing in one call: what compiling and playing give together, in terms of the sheet.
 use mathlib.Core.Path.{◌≡◌, refl, sym, ap, ◌∙◌}
-use mathlib.Core.Bool.{Bool, true, false, true≢false, cond}
+use mathlib.Core.Bool.{Bool, true, false, cond}
 use mathlib.Core.List.{List, []}
 use Prim.Native.Nat.{ℕ, ◌-◌, ◌≤◌}
 use native.Mathlib.Nat.{sub-zero, zero-div}
@@ -27,7 +27,7 @@ use Rattle.std.specs.Prelude.{Result, Ok, Err}
 use Rattle.refusal.specs.Number as refusals
 use Rattle.refusal.specs.declared.Refusal.TheVariants.{MemoryLength}
 use Rattle.refusal.specs.declared.Refused.{Refused}
-use Rattle.refusal.proofs.Numbers.{number_positive, accepted_at, accepted_by_at, refused_with_at}
+use Rattle.refusal.proofs.Numbers.{number_positive, accepted_at, refused_with_at}
 use Rattle.unit.proofs.Demands.{demand_3, values_given_lem}
 
 -- a refusal has a number above 0

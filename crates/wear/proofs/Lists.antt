@@ -1,5 +1,5 @@
 -- The list of the strip's commands: how many there are, their bytes, and the commands back out of the bytes.
-use Prim.Native.Nat.{ℕ, zero, suc, ◌+◌, ◌*◌, ◌/◌, ◌<◌, ◌≤◌}
+use Prim.Native.Nat.{ℕ, suc, ◌+◌, ◌*◌, ◌/◌, ◌<◌, ◌≤◌}
 use mathlib.Core.Path.{◌≡◌, refl, sym, ap, subst, ◌∙◌}
 use mathlib.Core.Bool.{Bool, true, false, not, ◌&&◌, ◌||◌, cond, true≢false}
 use mathlib.Core.List.{List, [], ◌∷◌, ◌++◌, map, append_assoc}
@@ -27,7 +27,6 @@ use Rattle.wear.specs.Strip.{digits_in, Strip, strip_with, strip_for, column, co
 use Rattle.wear.specs.Limits.{Checked, Drawable, command_count}
 use Rattle.wear.specs.declared.Ask.{Ask}
 use Rattle.std.specs.Prelude.{Result, Ok, Err}
-use Rattle.refusal.specs.Number as refusals
 use Rattle.refusal.specs.Number.{number}
 use Rattle.refusal.specs.declared.Refusal.{Refusal}
 use Rattle.refusal.proofs.Numbers.{number_positive, accepted, refused_with}
