@@ -1,19 +1,26 @@
-use Prim.Native.Nat.{ℕ, ◌<◌, ◌≤◌}
+use Prim.Native.Nat.{ℕ, ◌+◌, ◌-◌, ◌*◌, ◌<◌, ◌≤◌}
 use mathlib.Core.Path.{◌≡◌, sym, ◌∙◌}
-use mathlib.Core.Bool.{Bool, true, false}
+use mathlib.Core.Bool.{Bool, true, false, cond}
 use lib.Dec.{eqb}
 use borrow.Author.Tests.{eqb-true, eqb-false}
 use native.Mathlib.Omega.{arith}
-use Rattle.view.specs.Steps.{steps_from}
+use Rattle.view.specs.Steps.{steps_from, bits_after}
 use Rattle.view.specs.declared.Steps.{Steps}
 use Rattle.screen.specs.declared.ScreenValues.{ScreenValues}
 use Rattle.reader.specs.declared.Display.{Display}
 use Rattle.reader.specs.Along.{Walkable, OneSide, all_inside, Fillable}
 use Rattle.reader.proofs.Along.{near, fillable, step_colours}
 use Rattle.reader.proofs.Cells.{celled, cells_colours}
-use Rattle.reader_line.proofs.Bits.{bits_start}
 use Rattle.reader_line.proofs.Parts.{no_colours}
 use Rattle.reader_line.proofs.fill_run.Goals as goal
+
+-- the bits before the first pixel
+start_by : (t : Bool) (ahead behind step : ℕ) → ahead - behind ≡ cond t ahead (ahead + 0 * step) - cond t (behind + 0 * step) behind
+start_by true ahead behind step = omega arith
+start_by false ahead behind step = omega arith
+
+bits_start : (s : Steps) → s.ahead - s.behind ≡ bits_after s 0
+bits_start s = start_by s.back s.ahead s.behind s.step
 
 -- the columns can be read by steps
 can_fill : (d : Display) (v : ScreenValues) (p q n m : ℕ) (s : Steps) → Walkable d v → OneSide d v q p n → n ≤ 4294967296 → all_inside m d v q p n ≡ true
