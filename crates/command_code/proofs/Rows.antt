@@ -1,11 +1,12 @@
 -- Refusals 12 and 14 from what the functions found.
-use Prim.Native.Nat.{ℕ, suc, ◌+◌, ◌*◌, ◌<◌, ◌≤◌}
-use mathlib.Core.Path.{◌≡◌, sym, ap, ◌∙◌}
-use mathlib.Core.List.{List, ◌∷◌}
+use Prim.Native.Nat.{ℕ, zero, suc, ◌+◌, ◌*◌, ◌<◌, ◌≤◌}
+use mathlib.Core.Path.{◌≡◌, refl, sym, ap, ◌∙◌}
+use mathlib.Core.List.{List, [], ◌∷◌, ◌++◌}
 use mathlib.Core.Bool.{Bool, true, not, ◌&&◌, ◌||◌, and-true, and-eq-true_iff}
 use mathlib.Core.Logic.{⊎_elim}
 use native.Mathlib.Omega.{arith}
-use lib.ListN.{length, get_or, drop, drop_of_length-le}
+use lib.ListN.{length, get_or, drop, replicate, drop_of_length-le}
+use Rattle.std.proofs.lemmas.List.{append-nil}
 use lib.Seq.{drop-cons}
 use lib.Dec.{eqb, ltb}
 use borrow.Author.Tests.{eqb-true, eq-eqb, ne_eqb, lt-ltb}
@@ -19,6 +20,21 @@ use Rattle.command.specs.declared.Command.{Command}
 use Rattle.command.proofs.Operation.{each}
 use Rattle.command.proofs.Sharing.{same_truth}
 use Rattle.command_values.proofs.Table.{up_to_two, past_two}
+
+-- the bytes of a record in the long form
+all_one : (x n i : ℕ) → get_or (replicate n x) i x ≡ x
+all_one x zero i = refl
+all_one x (suc n) zero = refl
+all_one x (suc n) (suc i) = all_one x n i
+
+padded_with : (b : List ℕ) (n i : ℕ) → get_or (b ++ drop (length b) (replicate n 0)) i 0 ≡ get_or b i 0
+padded_with [] n i = all_one 0 n i
+padded_with (x ∷ b) zero i = ap (λ (l : List ℕ). get_or l i 0) (append-nil (x ∷ b))
+padded_with (x ∷ b) (suc n) zero = refl
+padded_with (x ∷ b) (suc n) (suc i) = padded_with b n i
+
+pub padded : (b : List ℕ) (i : ℕ) → get_or (b ++ drop (length b) (replicate 48 0)) i 0 ≡ get_or b i 0
+padded b i = padded_with b 48 i
 
 -- row 12: bytes that must be zero, four at a time
 four_bytes_lem : (x y z w : ℕ) (r : Bool) → (eqb x 0 && (eqb y 0 && (eqb z 0 && (eqb w 0 && r)))) ≡ (eqb (x + 256 * y + 65536 * (z + 256 * w)) 0 && r)

@@ -1,8 +1,8 @@
 // The command record, and its refusals.
 #![tactic(auto)]
 
-ghost use Rattle.std.specs.Prelude.{◌≡◌, ◌≤◌, true, length, drop};
-ghost use Rattle.record.specs.Bytes.{byte_at, u16_at, u32_at, all_zero};
+ghost use Rattle.std.specs.Prelude.{◌≡◌, ◌≤◌, true, length, drop, replicate};
+ghost use Rattle.record.specs.Bytes.{all_zero, over};
 ghost use Rattle.record.specs.Checks.{first_of};
 ghost use Rattle.screen.specs.Screen.{memory_size};
 ghost use Rattle.command.specs.Command.{command_of, by_operation, last_operation, must_be_zero, zeros_from, pattern_fits, formed, inside_image, placed, line_words, words_taken, command_rows, names_command, refusal, command_answer, number_of};
@@ -21,45 +21,14 @@ pub fn is_list(form: u32, list: &[u8]) -> bool
     ((form == 32) | (form == 48)) & ((over == 0) & (n <= 64 * size))
 }
 
-// The long form's fields; 0 in the short form.
-fn key_of(b: &[u8]) -> u16
+// The record in the long form: a short one with zeros behind it.
+fn in_long_form(b: &[u8]) -> [u8; 48]
     requires { is_form (length b.now) ≡ true }
-    ensures { result ≡ u16_at b.now 32 }
+    ensures { result ≡ over b.now (replicate 48 0) }
 {
-    if b.len() < 48 {
-        return 0;
-    }
-    record_code::u16_at(b, 32)
-}
-
-fn pattern_column(b: &[u8]) -> u8
-    requires { is_form (length b.now) ≡ true }
-    ensures { result ≡ byte_at b.now 34 }
-{
-    if b.len() < 48 {
-        return 0;
-    }
-    b[34]
-}
-
-fn pattern_line(b: &[u8]) -> u8
-    requires { is_form (length b.now) ≡ true }
-    ensures { result ≡ byte_at b.now 35 }
-{
-    if b.len() < 48 {
-        return 0;
-    }
-    b[35]
-}
-
-fn pattern_address(b: &[u8]) -> u32
-    requires { is_form (length b.now) ≡ true }
-    ensures { result ≡ u32_at b.now 36 }
-{
-    if b.len() < 48 {
-        return 0;
-    }
-    record_code::u32_at(b, 36)
+    let mut whole = [0; 48];
+    whole[..b.len()].copy_from_slice(b);
+    whole
 }
 
 // The record's fields.
@@ -67,21 +36,22 @@ pub fn command_of(b: &[u8]) -> Command
     requires { is_form (length b.now) ≡ true }
     ensures { result ≡ command_of b.now }
 {
+    let whole = in_long_form(b);
     Command {
-        operation: b[0],
-        surface: b[1],
-        raster: b[2],
-        x: record_code::u16_at(b, 4),
-        y: record_code::u16_at(b, 6),
-        width: record_code::u16_at(b, 8),
-        height: record_code::u16_at(b, 10),
-        sx: record_code::u16_at(b, 12),
-        sy: record_code::u16_at(b, 14),
-        colour: record_code::u16_at(b, 16),
-        key: key_of(b),
-        px: pattern_column(b),
-        py: pattern_line(b),
-        pattern: pattern_address(b),
+        operation: whole[0],
+        surface: whole[1],
+        raster: whole[2],
+        x: record_code::u16_at(&whole, 4),
+        y: record_code::u16_at(&whole, 6),
+        width: record_code::u16_at(&whole, 8),
+        height: record_code::u16_at(&whole, 10),
+        sx: record_code::u16_at(&whole, 12),
+        sy: record_code::u16_at(&whole, 14),
+        colour: record_code::u16_at(&whole, 16),
+        key: record_code::u16_at(&whole, 32),
+        px: whole[34],
+        py: whole[35],
+        pattern: record_code::u32_at(&whole, 36),
     }
 }
 
@@ -99,22 +69,16 @@ fn last_operation(b: &[u8]) -> u8
 fn is_unused_zero(c: Command) -> bool
     ensures { result ≡ all_zero (must_be_zero c) }
 {
-    if c.operation == 0 {
-        return (c.raster == 0) & ((c.sx == 0) & (c.sy == 0));
+    match c.operation {
+        0 => (c.raster == 0) & ((c.sx == 0) & (c.sy == 0)),
+        1 => c.colour == 0,
+        2 => (c.sx == 0) & ((c.sy == 0) & (c.colour == 0)),
+        3 => (c.sx == 0) & ((c.sy == 0) & ((c.colour == 0) & (c.key == 0))),
+        4 => (c.raster == 0) & ((c.sx == 0) & ((c.sy == 0) & (c.colour == 0))),
+        _ => {
+            (c.raster == 0) & ((c.colour == 0) & ((c.px == 0) & ((c.py == 0) & (c.pattern == 0))))
+        }
     }
-    if c.operation == 1 {
-        return c.colour == 0;
-    }
-    if c.operation == 2 {
-        return (c.sx == 0) & ((c.sy == 0) & (c.colour == 0));
-    }
-    if c.operation == 3 {
-        return (c.sx == 0) & ((c.sy == 0) & ((c.colour == 0) & (c.key == 0)));
-    }
-    if c.operation == 4 {
-        return (c.raster == 0) & ((c.sx == 0) & ((c.sy == 0) & (c.colour == 0)));
-    }
-    (c.raster == 0) & ((c.colour == 0) & ((c.px == 0) & ((c.py == 0) & (c.pattern == 0))))
 }
 
 // Whether a long record's last bytes are zero, from byte 32 on or behind the pattern's fields; a short record has none of them. They are taken
@@ -150,13 +114,10 @@ fn is_pattern(s: Screen, c: Command) -> bool
 fn is_pattern_formed(s: Screen, c: Command) -> bool
     ensures { result ≡ by_operation c.operation true true true (pattern_fits memory_size s c) (pattern_fits memory_size s c) true }
 {
-    if c.operation <= 2 {
-        return true;
+    match c.operation {
+        3 | 4 => is_pattern(s, c),
+        _ => true,
     }
-    if c.operation <= 4 {
-        return is_pattern(s, c);
-    }
-    true
 }
 
 // Refusal 12: whether the command is one, and zero where it must be.

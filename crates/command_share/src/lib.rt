@@ -2,7 +2,6 @@
 #![tactic(auto)]
 
 ghost use Rattle.std.specs.Prelude.{◌≡◌, ◌≤◌, ◌&&◌, ltb};
-ghost use Rattle.screen.specs.Image.{line_bytes};
 ghost use Rattle.command.specs.Command.{destination_of, source_of, rectangle_at, pattern_at, clashes};
 ghost use Rattle.command.specs.Sharing.{meet, share_byte};
 ghost use Rattle.command_share.specs.Run.{lines_meet, first_past};
@@ -45,20 +44,13 @@ fn lines_meet(at: u64, line: u32, size: u32, count: u16, a: u64, n: u32) -> bool
     is_met(from, size, a, n)
 }
 
-// The bytes of so many pixels of a line.
-fn line_bytes(depth: u8, pixels: u16) -> u32
-    ensures { result ≡ line_bytes depth pixels }
-{
-    pixels as u32 * depth as u32 / 8
-}
-
 // Whether a pattern shares a byte with the destination.
 fn is_pattern_shared(s: Screen, c: Command) -> bool
     ensures { result ≡ share_byte (rectangle_at s c (destination_of s c)) (pattern_at s c) }
 {
     let on = command_values::surface_of(s, c);
     let destination = command_values::destination_of(s, c);
-    let size = line_bytes(s.depth, c.width);
+    let size = screen_code::line_bytes(s.depth, c.width);
     let pattern = c.pattern as u64;
     let bytes = 8 * s.depth as u32;
     lines_meet(destination, on.line, size, c.height, pattern, bytes)
@@ -74,11 +66,12 @@ fn is_source_shared(s: Screen, c: Command) -> bool
         return false;
     }
     let on = command_values::surface_of(s, c);
-    let size = line_bytes(s.depth, c.width);
+    let size = screen_code::line_bytes(s.depth, c.width);
     lines_meet(source, on.line, size, c.height, destination, size)
 }
 
 // Refusal 29: whether the destination shares a byte with the pattern, or with a transparent move's source at a lower address.
+#[tactic(auto, unfolding(command::specs::Command::clashes))]
 pub fn is_clash(s: Screen, c: Command) -> bool
     ensures { result ≡ clashes s c }
 {

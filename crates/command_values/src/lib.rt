@@ -18,27 +18,26 @@ pub fn surface_of(s: Screen, c: Command) -> Image
     screen_code::window_image(s)
 }
 
-// The address of an image's pixel.
-fn address_of(depth: u8, i: Image, x: u32, y: u32) -> u64
+// The address of a pixel of the image that a command draws on.
+fn pixel_address(s: Screen, c: Command, x: u32, y: u32) -> u64
     requires { (x ≤ 131070) × (y ≤ 131070) }
-    ensures { (result ≡ address_of depth i x y) × (result ≤ 0x4000000000000) }
+    ensures { (result ≡ address_of s.depth (surface_of s c) x y) × (result ≤ 0x4000000000000) }
 {
-    i.base as u64 + y as u64 * i.line as u64 + x as u64 * depth as u64 / 8
+    let on = surface_of(s, c);
+    on.base as u64 + y as u64 * on.line as u64 + x as u64 * s.depth as u64 / 8
 }
 
 // The addresses of the upper left pixels.
 pub fn destination_of(s: Screen, c: Command) -> u64
     ensures { (result ≡ destination_of s c) × (result ≤ 0x4000000000000) }
 {
-    let on = surface_of(s, c);
-    address_of(s.depth, on, c.x as u32, c.y as u32)
+    pixel_address(s, c, c.x as u32, c.y as u32)
 }
 
 pub fn source_of(s: Screen, c: Command) -> u64
     ensures { (result ≡ source_of s c) × (result ≤ 0x4000000000000) }
 {
-    let on = surface_of(s, c);
-    address_of(s.depth, on, c.sx as u32, c.sy as u32)
+    pixel_address(s, c, c.sx as u32, c.sy as u32)
 }
 
 // Whether a move goes in negative direction.
@@ -50,31 +49,12 @@ fn is_negative(s: Screen, c: Command) -> bool
     (c.operation == 1) & (source < destination)
 }
 
-// A number less one; 0 for 0.
-fn less_one(n: u16) -> u32
-    ensures { (result ≡ n - 1) × (result ≤ 65534) }
-{
-    if n == 0 {
-        return 0;
-    }
-    n as u32 - 1
-}
-
-// The pixels from the left, and the lines from the top, to the pixel that a command starts at.
-fn last_column(s: Screen, c: Command) -> u32
-    ensures { (result ≡ last_column s c) × (result ≤ 65534) }
+// How far behind the first of so many columns or lines the pixel stands that a command starts at.
+fn steps_behind(s: Screen, c: Command, size: u16) -> u32
+    ensures { (result ≡ cond (is_negative s c) (size - 1) 0) × (result ≤ 65534) }
 {
     if is_negative(s, c) {
-        return less_one(c.width);
-    }
-    0
-}
-
-fn last_line(s: Screen, c: Command) -> u32
-    ensures { (result ≡ last_line s c) × (result ≤ 65534) }
-{
-    if is_negative(s, c) {
-        return less_one(c.height);
+        return size.saturating_sub(1) as u32;
     }
     0
 }
@@ -83,25 +63,14 @@ fn last_line(s: Screen, c: Command) -> u32
 fn operation_value(s: Screen, c: Command) -> u64
     ensures { (result ≡ by_operation c.operation 12 (cond (is_negative s c) 3 2) 0 6 7 5) × (result ≤ 12) }
 {
-    if c.operation == 0 {
-        return 12;
+    match c.operation {
+        0 => 12,
+        1 => { if is_negative(s, c) { 3 } else { 2 } }
+        2 => 0,
+        3 => 6,
+        4 => 7,
+        _ => 5,
     }
-    if c.operation == 1 {
-        if is_negative(s, c) {
-            return 3;
-        }
-        return 2;
-    }
-    if c.operation == 2 {
-        return 0;
-    }
-    if c.operation == 3 {
-        return 6;
-    }
-    if c.operation == 4 {
-        return 7;
-    }
-    5
 }
 
 // The value of 8008h.
@@ -126,40 +95,33 @@ fn pattern_value(s: Screen, c: Command) -> u64
     pattern_pixel(c.pattern, c.px, c.py, s.depth)
 }
 
-// A move's start address.
-fn move_value(s: Screen, c: Command) -> u64
-    ensures { result ≡ address_of s.depth (surface_of s c) (c.sx + last_column s c) (c.sy + last_line s c) }
+// The address of the pixel that a command starts at, of a rectangle whose upper left pixel is (x, y).
+fn start_value(s: Screen, c: Command, x: u16, y: u16) -> u64
+    ensures { result ≡ address_of s.depth (surface_of s c) (x + last_column s c) (y + last_line s c) }
 {
-    let on = surface_of(s, c);
-    let x = c.sx as u32 + last_column(s, c);
-    let y = c.sy as u32 + last_line(s, c);
-    address_of(s.depth, on, x, y)
+    let column = x as u32 + steps_behind(s, c, c.width);
+    let line = y as u32 + steps_behind(s, c, c.height);
+    pixel_address(s, c, column, line)
 }
 
 // The value of 800Ch.
+#[tactic(auto, unfolding(command::specs::Values::source_value))]
 fn source_value(s: Screen, c: Command) -> u64
     ensures { result ≡ source_value s c }
 {
-    if c.operation == 1 {
-        return move_value(s, c);
+    match c.operation {
+        0 | 2 => 0,
+        1 => start_value(s, c, c.sx, c.sy),
+        3 | 4 => pattern_value(s, c),
+        _ => source_of(s, c),
     }
-    if c.operation <= 2 {
-        return 0;
-    }
-    if c.operation <= 4 {
-        return pattern_value(s, c);
-    }
-    source_of(s, c)
 }
 
 // The value of 8010h.
 fn destination_value(s: Screen, c: Command) -> u64
     ensures { result ≡ destination_value s c }
 {
-    let on = surface_of(s, c);
-    let x = c.x as u32 + last_column(s, c);
-    let y = c.y as u32 + last_line(s, c);
-    address_of(s.depth, on, x, y)
+    start_value(s, c, c.x, c.y)
 }
 
 // The value of 8020h: only operations 4 and 5 use it.
@@ -201,8 +163,8 @@ pub fn blit_values(s: Screen, c: Command) -> [u64; 9]
     let source = source_value(s, c);
     let destination = destination_value(s, c);
     let offset = on.line as u64 / 2;
-    let width = less_one(c.width) as u64;
-    let height = less_one(c.height) as u64;
+    let width = c.width.saturating_sub(1) as u64;
+    let height = c.height.saturating_sub(1) as u64;
     let key = key_value(c);
     let colour = colour_value(c);
     let control = control_value(s.depth);

@@ -43,9 +43,8 @@ pub fn first_pass(form: u32, s: Screen, list: &[u8], left: u64) -> Pass
 {
     let size = form as usize;
     let count = list.len() / size;
-    let mut i: usize = 0;
     let mut used: u64 = 0;
-    while i < count {
+    for i in 0..count {
         let at = i * size;
         let end = at + size;
         let answer = command_code::read_command(s, left - used, &list[at..end]);
@@ -59,7 +58,6 @@ pub fn first_pass(form: u32, s: Screen, list: &[u8], left: u64) -> Pass
             }
             CommandAnswer::Accepted(c) => {
                 used += command_code::words_taken(s, c) as u64;
-                i += 1;
             }
         }
     }
@@ -76,13 +74,11 @@ pub fn put_records(buffer: &mut [u8], at: usize, numbers: &[u32], values: &[u64]
     requires values_in_bounds { at + 8 * length values.now ≤ length buffer.old }
     ensures { buffer.new ≡ sets buffer.old at (stream_bytes (records_with numbers.now values.now)) }
 {
-    let mut i = 0;
     let mut to = at;
-    while i < values.len() {
-        record_code::put_number(buffer, to, numbers[i] as u64);
-        record_code::put_number(buffer, to + 4, values[i]);
+    for (number, value) in numbers.iter().zip(values) {
+        record_code::put_number(buffer, to, *number as u64);
+        record_code::put_number(buffer, to + 4, *value);
         to += 8;
-        i += 1;
     }
 }
 
@@ -91,13 +87,11 @@ fn put_words(buffer: &mut [u8], at: usize, words: &[u16])
     requires { at + 8 * length words.now ≤ length buffer.old }
     ensures { buffer.new ≡ sets buffer.old at (stream_bytes (data_records words.now)) }
 {
-    let mut i = 0;
     let mut to = at;
-    while i < words.len() {
+    for word in words {
         record_code::put_number(buffer, to, 0x10000);
-        record_code::put_number(buffer, to + 4, words[i] as u64);
+        record_code::put_number(buffer, to + 4, *word as u64);
         to += 8;
-        i += 1;
     }
 }
 
@@ -139,10 +133,9 @@ pub fn second_pass(form: u32, s: Screen, list: &[u8], words: &[u16], buffer: &mu
 {
     let size = form as usize;
     let commands = list.len() / size;
-    let mut i: usize = 0;
     let mut used: usize = 0;
     let mut at: usize = 48;
-    while i < commands {
+    for i in 0..commands {
         let from = i * size;
         let to = from + size;
         let c = command_code::command_of(&list[from..to]);
@@ -151,6 +144,5 @@ pub fn second_pass(form: u32, s: Screen, list: &[u8], words: &[u16], buffer: &mu
         put_command(s, c, buffer, at, &words[used..end]);
         at = at + 72 + 8 * n;
         used = end;
-        i += 1;
     }
 }

@@ -22,12 +22,12 @@ fn is_inside(size: u64, s: Steps, j: u32) -> bool
     ensures { result ≡ step_inside size s j }
 {
     let way = j as u64 * s.step;
-    if s.back {
-        let behind = s.behind + way;
-        return (behind <= s.ahead) & (record_code::minus(s.ahead, behind) / 32 < size / 4);
-    }
-    let ahead = s.ahead + way;
-    (s.behind <= ahead) & (record_code::minus(ahead, s.behind) / 32 < size / 4)
+    let (ahead, behind) = if s.back {
+        (s.ahead, s.behind + way)
+    } else {
+        (s.ahead + way, s.behind)
+    };
+    (behind <= ahead) & (record_code::minus(ahead, behind) / 32 < size / 4)
 }
 
 // Whether the dwords of the columns from `from` up to `to`, on one side of the window's edges, are all in a memory of so many bytes: those of
@@ -57,9 +57,10 @@ fn next_bits(s: Steps, bits: u64) -> u64
     ensures { result ≡ cond s.back (bits - s.step) (bits + s.step) }
 {
     if s.back {
-        return record_code::minus(bits, s.step);
+        record_code::minus(bits, s.step)
+    } else {
+        bits + s.step
     }
-    bits + s.step
 }
 
 // Fills a line with the colours of pixels that stand a step apart.
@@ -68,11 +69,9 @@ fn fill_by(depth: u32, memory: &[u8], s: Steps, line: &mut [u16])
     ensures { line.new ≡ tabulate (length line.old) (step_colour depth memory.now s) }
 {
     let mut bits = record_code::minus(s.ahead, s.behind);
-    let mut j = 0;
-    while j < line.len() {
-        line[j] = colour_after(depth, memory, bits);
+    for colour in line.iter_mut() {
+        *colour = colour_after(depth, memory, bits);
         bits = next_bits(s, bits);
-        j += 1;
     }
 }
 
@@ -82,9 +81,10 @@ fn edge_bits(depth: u32, back: bool) -> u64
     ensures { result ≡ cond back (8 * cell_bytes depth - depth) 0 }
 {
     if back {
-        return record_code::minus(8 * reader_cells::cell_bytes(depth) as u64, depth as u64);
+        record_code::minus(8 * reader_cells::cell_bytes(depth) as u64, depth as u64)
+    } else {
+        0
     }
-    0
 }
 
 // Whether n pixels stand side by side and are whole bytes, as at 0 and 180 degrees they always are.
@@ -102,7 +102,7 @@ fn fill_run(d: Display, values: ScreenValues, q: u32, from: u32, memory: &[u8], 
     requires { Walkable d values × (OneSide d values q from (length line.old) × ((length line.old ≤ 4294967296) × (all_inside (length memory.now) d values q from (length line.old) ≡ true))) }
     ensures { line.new ≡ colours_from d values q memory.now from (length line.old) }
 {
-    if line.len() == 0 {
+    if line.is_empty() {
         return;
     }
     let s = view_code::steps_from(d.depth, d.rotation, d.flag, values, from, q);

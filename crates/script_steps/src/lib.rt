@@ -12,7 +12,8 @@ ghost use Rattle.script.specs.Steps.{form_on, desk_after, words_after, stream_pa
 use chip::Played;
 use compiler::Compiled;
 
-// The steps that leave something: the first four letters of a line as a number, the first letter lowest.
+// The steps that leave something: the first four letters of a line as a number, the first letter lowest. They stay numbers, since the
+// functions' contracts and the definitions of script name them so.
 pub const SCREEN: u32 = 0x65726373;
 
 pub const COMMAND: u32 = 0x6D6D6F63;
@@ -62,18 +63,17 @@ pub fn zeros() -> [u8; 262144]
 pub fn set_desk(k: u32, line: &[u8], desk: &mut [u8; 92])
     ensures { desk.new ≡ desk_after k line.now desk.old }
 {
-    if k == SCREEN {
-        script_code::put_fields(line, &SCREEN_PLACES, desk);
-        return;
-    }
-    if k == COMMAND {
-        script_code::put_fields(line, &COMMAND_PLACES, desk);
-        script_code::put_number(desk, COMMANDS, 1);
-        return;
-    }
-    if k == LONG {
-        script_code::put_fields(line, &LONG_PLACES, desk);
-        script_code::put_number(desk, FORM, 1);
+    match k {
+        SCREEN => script_code::put_fields(line, &SCREEN_PLACES, desk),
+        COMMAND => {
+            script_code::put_fields(line, &COMMAND_PLACES, desk);
+            script_code::put_number(desk, COMMANDS, 1);
+        }
+        LONG => {
+            script_code::put_fields(line, &LONG_PLACES, desk);
+            script_code::put_number(desk, FORM, 1);
+        }
+        _ => {}
     }
 }
 
@@ -99,7 +99,7 @@ pub fn patch(k: u32, line: &[u8], stream: &mut [u8; 16384])
 fn does_keep(k: u32) -> bool
     ensures { result ≡ keeps k }
 {
-    (k == EXAMPLE) | (k == KEEP)
+    matches!(k, EXAMPLE | KEEP)
 }
 
 // Keeps the memory.
@@ -147,19 +147,17 @@ pub fn compile(
 {
     let bytes = &desk[..];
     let all = &words[..];
-    let n = record_code::least(script_code::number_at(bytes, WORDS) as usize, all.len());
+    let n = (script_code::number_at(bytes, WORDS) as usize).min(all.len());
     let form = form_on(bytes);
     let end = 32 + (form * (script_code::number_at(bytes, COMMANDS) % 2)) as usize;
     let screen = &bytes[..32];
     let list = &bytes[32..end];
     let taken = &all[..n];
-    if k == COMPILE {
-        return compiler_code::compile_into(form, screen, list, taken, stream);
+    match k {
+        COMPILE => compiler_code::compile_into(form, screen, list, taken, stream),
+        OLDER => older_code::compile_into(form, screen, list, taken, stream),
+        _ => old,
     }
-    if k == OLDER {
-        return older_code::compile_into(form, screen, list, taken, stream);
-    }
-    old
 }
 
 // The stream's length in bytes; 0 where there is none.
@@ -187,6 +185,6 @@ pub fn play(
         return old;
     }
     let all = &stream[..];
-    let n = record_code::least(size_of(c) as usize, all.len());
+    let n = (size_of(c) as usize).min(all.len());
     chip_code::play(&all[..n], memory)
 }

@@ -127,24 +127,25 @@ fn is_same(a: &[u8; 262144], b: &[u8; 262144]) -> bool
 fn is_setting(k: u32) -> bool
     ensures { result ≡ is_setting k }
 {
-    (k == script_steps::SCREEN)
-        | ((k == script_steps::COMMAND)
-            | ((k == script_steps::LONG)
-                | ((k == script_steps::WORD)
-                    | ((k == script_steps::STORE)
-                        | ((k == script_steps::PATCH)
-                            | ((k == script_steps::EXAMPLE)
-                                | ((k == script_steps::KEEP) | (k == DONE))))))))
+    matches!(
+        k,
+        script_steps::SCREEN
+            | script_steps::COMMAND
+            | script_steps::LONG
+            | script_steps::WORD
+            | script_steps::STORE
+            | script_steps::PATCH
+            | script_steps::EXAMPLE
+            | script_steps::KEEP
+            | DONE
+    )
 }
 
 // Whether a line is empty or begins with #.
 fn is_comment(line: &[u8]) -> bool
     ensures { result ≡ is_comment line.now }
 {
-    if line.len() == 0 {
-        return true;
-    }
-    line[0] == b'#'
+    line.is_empty() || line[0] == b'#'
 }
 
 // Whether a line is as the papers have it.

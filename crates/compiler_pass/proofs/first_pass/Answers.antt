@@ -45,16 +45,13 @@ pub overflow_add-used : goal.overflow_add-used
 overflow_add-used c = let l = c.loop-i in
     omega (arith, c.words_taken.ensures, words_fit _ _ _ _ _ _ l.i l.used l.invariant _ (answered _ c.args.form c.args.list.now _ c.loop-i.i _ c.read_command-answer.ensures.value ∙ c.in-Accepted.is))
 
-pub overflow_add-i : goal.overflow_add-i
-overflow_add-i c = omega (arith, c.loop-i-test.true, c.loop-i.invariant.count_is, count_most c.args.form (length c.args.list.now) c.requires.list_len_bound)
-
 pub loop-i-preserved : goal.loop-i-preserved
 loop-i-preserved c = let l = c.loop-i in
     rw c.words_taken.ensures
     (going_turn _ _ _ _ _ _ l.i l.used l.invariant _ c.loop-i-test.true (omega (arith, c.words_taken.ensures, c.words_taken.type_inv)) (answered _ c.args.form c.args.list.now _ c.loop-i.i _ c.read_command-answer.ensures.value ∙ c.in-Accepted.is))
 
 pub returns-clause-value : goal.returns-clause-value
-returns-clause-value c = let l = c.loop-i in pass_done _ _ _ _ _ _ l.i l.used l.invariant c.loop-i-test.false
+returns-clause-value c = let l = c.loop-i in pass_done _ _ _ _ _ _ l.i l.used l.invariant (omega arith)
 
 pub returns-clause-used_bound : goal.returns-clause-used_bound
 returns-clause-used_bound c = let l = c.loop-i in

@@ -1,11 +1,7 @@
-use Prim.Native.Nat.{◌-◌}
 use lib.ListN.{length}
 use Rattle.compiler.specs.Stream.{records_with}
 use Rattle.compiler.proofs.Puts.{Putting}
 use Rattle.compiler_pass.proofs.put_records.Given as goal
 
-abbrev pub invariant-loop-i : goal.invariant-loop-i
-invariant-loop-i l = Putting (records_with l.numbers l.values) l.at l.initial.buffer l.buffer l.i l.to
-
-abbrev pub decreases-loop-i : goal.decreases-loop-i
-decreases-loop-i l = length l.values - l.i
+abbrev pub invariant-loop-number : goal.invariant-loop-number
+invariant-loop-number l = Putting (records_with l.numbers l.values) l.at l.initial.buffer l.buffer (length l.yielded) l.to

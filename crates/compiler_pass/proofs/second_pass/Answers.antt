@@ -2,7 +2,7 @@ use Prim.Native.Nat.{ℕ, ◌+◌, ◌-◌, ◌*◌}
 use mathlib.Core.Path.{◌≡◌, ap, ◌∙◌}
 use mathlib.Core.List.{List}
 use Rattle.command.specs.declared.Command.{Command}
-use native.Mathlib.Nat.{add-sub_cancel_left, div-le_self}
+use native.Mathlib.Nat.{add-sub_cancel_left}
 use native.Mathlib.Omega.{arith}
 use lib.ListN.{length, take, drop}
 use Rattle.command.specs.Command.{command_of}
@@ -56,13 +56,10 @@ overflow_mul-at c = omega (arith, room_there _ _ _ _ _ _ c.loop-i.buffer _ c.loo
 pub overflow_add-at-in-loop-i : goal.overflow_add-at-in-loop-i
 overflow_add-at-in-loop-i c = omega (arith, room_there _ _ _ _ _ _ c.loop-i.buffer _ c.loop-i.i c.loop-i.used c.loop-i.at c.loop-i.invariant _ c.loop-i-test.true (command_is c.args.form c.args.list.now c.loop-i.i _ c.command_of-c.ensures), c.words_taken-n.ensures, c.loop-i.invariant.same, c.well_formed)
 
-pub overflow_add-i : goal.overflow_add-i
-overflow_add-i c = omega (arith, c.loop-i-test.true, c.loop-i.invariant.count_is, div-le_self (length c.args.list.now) c.args.form, c.well_formed)
-
 pub loop-i-preserved : goal.loop-i-preserved
 loop-i-preserved c = let l = c.loop-i in
     let n = c.words_taken-n in
     writing_step _ _ _ _ _ _ l.buffer _ l.i l.used l.at l.invariant _ c.loop-i-test.true (command_is c.args.form c.args.list.now c.loop-i.i _ c.command_of-c.ensures) n.result _ n.ensures c.put_command.ensures
 
 pub returns : goal.returns
-returns c = let l = c.loop-i in writing_end _ _ _ _ _ _ _ _ l.i l.used l.at l.invariant c.loop-i-test.false
+returns c = let l = c.loop-i in writing_end _ _ _ _ _ _ _ _ l.i l.used l.at l.invariant (omega arith)

@@ -1,15 +1,9 @@
 use Prim.Native.Nat.{◌-◌}
 use mathlib.Core.Path.{ap, ◌∙◌}
-use native.Mathlib.Omega.{arith}
 use Rattle.reader.specs.Along.{colours_from}
 use Rattle.reader_cells.proofs.Loop.{part_length}
 use Rattle.reader_line.proofs.Parts.{length_colours, part_stored}
 use Rattle.reader_line.proofs.fill_part.Goals as goal
-
-pub fill_run-requires : goal.fill_run-requires
-fill_run-requires c = let a = c.args in
-    let p = c.requires in
-    rw (part_length a.line.now a.from a.to p.1.1.0 p.1.1.1.0) (p.0, (p.1.0, (omega (arith, c.ranges.to.fits), p.1.1.1.1)))
 
 pub returns : goal.returns
 returns c = let a = c.args in

@@ -2,7 +2,7 @@ use lib.Seq.{length-take-le}
 use lib.ListN.{length, take, drop}
 use mathlib.Core.List.{List}
 use Rattle.script.specs.Script.{number_at}
-use Rattle.std.proofs.Common.{min}
+use Rattle.std.proofs.Common.{min, ◌≢◌}
 use mathlib.Core.Path.{◌≡◌, refl, sym}
 use Prim.Native.Nat.{ℕ, ◌+◌, ◌-◌, ◌*◌, ◌%◌}
 use native.Mathlib.Omega.{arith}
@@ -37,21 +37,24 @@ slice_bounds-screen-end c = sym (length-take-le 32 c.args.desk.now (omega arith)
 pub slice_bounds-list-end : goal.slice_bounds-list-end
 slice_bounds-list-end c = omega (arith, one_record c.form_on-form.result c.number_at-2.result c.form_on-form.ensures.1)
 
-pub returns-then-k-eq-COMPILE : goal.returns-then-k-eq-COMPILE
+pub returns-in-1886220131 : goal.returns-in-1886220131
 unfolding compiled_after stream_after
-returns-then-k-eq-COMPILE c =
+returns-in-1886220131 c =
     let a = c.args in
-    let is = eq-eqb _ _ c.if-k-eq-COMPILE.true in record { value = yes _ is (on_desk (λ n l w. answer_of (compiling memory_size (task n (take 32 a.desk.now) l w) (length a.stream.now))) a.desk.now a.words.now _ _ _ _ c.form_on-form.ensures.0 c.number_at-2.ensures c.least-n.ensures c.number_at.ensures c.compile_into.ensures.value); stream_after = yes _ is (on_desk (λ n l w. buffer_after memory_size (task n (take 32 a.desk.now) l w) a.stream.now) a.desk.now a.words.now _ _ _ _ c.form_on-form.ensures.0 c.number_at-2.ensures c.least-n.ensures c.number_at.ensures c.compile_into.ensures.stream_after) }
+    let is = eq-eqb _ _ c.in-1886220131.is in record { value = yes _ is (on_desk (λ n l w. answer_of (compiling memory_size (task n (take 32 a.desk.now) l w) (length a.stream.now))) a.desk.now a.words.now _ _ _ _ c.form_on-form.ensures.0 c.number_at-2.ensures c.min-n.ensures c.number_at.ensures c.compile_into.ensures.value); stream_after = yes _ is (on_desk (λ n l w. buffer_after memory_size (task n (take 32 a.desk.now) l w) a.stream.now) a.desk.now a.words.now _ _ _ _ c.form_on-form.ensures.0 c.number_at-2.ensures c.min-n.ensures c.number_at.ensures c.compile_into.ensures.stream_after) }
 
-pub returns-then-k-eq-OLDER : goal.returns-then-k-eq-OLDER
+pub returns-in-1701080175 : goal.returns-in-1701080175
 unfolding compiled_after stream_after
-returns-then-k-eq-OLDER c =
+returns-in-1701080175 c =
     let a = c.args in
-    let first = ne_eqb _ _ c.if-k-eq-COMPILE.false in
-    let is = eq-eqb _ _ c.if-k-eq-OLDER.true in record { value = no _ first (yes _ is (on_desk (λ n l w. answer_of (older_compiling (task n (take 32 a.desk.now) l w) (length a.stream.now))) a.desk.now a.words.now _ _ _ _ c.form_on-form.ensures.0 c.number_at-2.ensures c.least-n.ensures c.number_at.ensures c.compile_into-then-k-eq-OLDER.ensures.value)); stream_after = no _ first (yes _ is (on_desk (λ n l w. older_buffer (task n (take 32 a.desk.now) l w) a.stream.now) a.desk.now a.words.now _ _ _ _ c.form_on-form.ensures.0 c.number_at-2.ensures c.least-n.ensures c.number_at.ensures c.compile_into-then-k-eq-OLDER.ensures.stream_after)) }
+    let not_compile : c.args.k ≢ 1886220131 = omega arith in
+    let first = ne_eqb _ _ not_compile in
+    let is = eq-eqb _ _ c.in-1701080175.is in record { value = no _ first (yes _ is (on_desk (λ n l w. answer_of (older_compiling (task n (take 32 a.desk.now) l w) (length a.stream.now))) a.desk.now a.words.now _ _ _ _ c.form_on-form.ensures.0 c.number_at-2.ensures c.min-n.ensures c.number_at.ensures c.compile_into-in-1701080175.ensures.value)); stream_after = no _ first (yes _ is (on_desk (λ n l w. older_buffer (task n (take 32 a.desk.now) l w) a.stream.now) a.desk.now a.words.now _ _ _ _ c.form_on-form.ensures.0 c.number_at-2.ensures c.min-n.ensures c.number_at.ensures c.compile_into-in-1701080175.ensures.stream_after)) }
 
-pub returns : goal.returns
+pub returns-in_default : goal.returns-in_default
 unfolding compiled_after stream_after
-returns c = let first = ne_eqb _ _ c.if-k-eq-COMPILE.false in
-    let second = ne_eqb _ _ c.if-k-eq-OLDER.false in
+returns-in_default c = let not_compile : c.args.k ≢ 1886220131 = omega arith in
+    let first = ne_eqb _ _ not_compile in
+    let not_older : c.args.k ≢ 1701080175 = omega arith in
+    let second = ne_eqb _ _ not_older in
     record { value = no _ first (no _ second refl); stream_after = no _ first (no _ second refl) }

@@ -17,4 +17,4 @@ pub returns : goal.returns
 unfolding played_after memory_played
 returns c = let a = c.args in
     let is = eq-eqb _ _ c.if-k-ne-PLAY.false in
-    let part = taken a.stream.now _ _ _ c.least-n.ensures c.size_of.ensures in record { value = yes _ is (c.play.ensures.value ∙ ap (λ (l : List ℕ). answer_of (playing memory_size l a.memory.now)) part); memory_after = yes _ is (c.play.ensures.memory_after ∙ ap (λ (l : List ℕ). played memory_size l a.memory.now) part) }
+    let part = taken a.stream.now _ _ _ c.min-n.ensures c.size_of.ensures in record { value = yes _ is (c.play.ensures.value ∙ ap (λ (l : List ℕ). answer_of (playing memory_size l a.memory.now)) part); memory_after = yes _ is (c.play.ensures.memory_after ∙ ap (λ (l : List ℕ). played memory_size l a.memory.now) part) }
