@@ -12,6 +12,7 @@ use view::{Columns, Place, Steps};
 
 // The chip's walk from an image's registers to point (p, q), k pixels to a dword: so many dwords and pixels along a line of the image,
 // after so many lines.
+#[tactic(auto, unfolding(view::specs::Walk::walk))]
 fn walk_to(rotation: u32, k: u32, at: Origin, p: u32, q: u32) -> Place
     requires { (at.start ≤ 65535) × (at.offset ≤ 1023) }
     ensures { result ≡ walk rotation k at p q }
