@@ -109,8 +109,8 @@ fn key_worker(line: &mut [u8], bytes: usize, width: usize, key: u16, source: &[u
 {
     if bytes == 2 {
         key_pixels::<2>(line, width, key, source);
-    } else if key < 256 {
-        key_bytes(line, width, key as u8, source);
+    } else if let Ok(key) = u8::try_from(key) {
+        key_bytes(line, width, key, source);
     } else {
         key_pixels::<1>(line, width, key, source);
     }

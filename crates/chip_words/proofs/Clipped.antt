@@ -31,24 +31,19 @@ module _ (n a : ℕ) (mix : Mix) (p v : ℕ) (m : List ℕ) where
 
 -- ---- the pixels of a word
 
--- a word has one pixel of two bytes, two of one
+-- a word has one pixel of two bytes, or its two bytes
 pub first_only : (n i : ℕ) → n ≡ 2 → i < per_word n → i ≡ 0
 first_only n i e h = let h' : i < 2 / 2 = rw e at h in omega arith
-
-pub second_only : (n i : ℕ) → n ≡ 1 → i < per_word n → (i ≡ 0 → ⊥) → i ≡ 1
-second_only n i e h g = let h' : i < 2 / 1 = rw e at h in omega arith
 
 pub word_whole : (n w i : ℕ) → n ≡ 2 → i ≡ 0 → w < 65536 → w ≡ word_pixel n w i
 unfolding word_pixel get_pixel
 word_whole n w i e f h = rw (e, f) (omega arith)
 
-pub word_low : (n w i : ℕ) → n ≡ 1 → i ≡ 0 → w % 256 ≡ word_pixel n w i
-unfolding word_pixel get_pixel
-word_low n w i e f = rw (e, f) (omega arith)
-
-pub word_high : (n w i : ℕ) → n ≡ 1 → i ≡ 1 → w < 65536 → w / 256 ≡ word_pixel n w i
-unfolding word_pixel get_pixel
-word_high n w i e f h = rw (e, f) (omega arith)
+pub word_byte : (n w i : ℕ) → n ≡ 1 → get_or (w % 256 ∷ w / 256 % 256 ∷ []) i 0 ≡ word_pixel n w i
+unfolding word_pixel
+word_byte n w i e =
+    let bytes : List ℕ = w % 256 ∷ w / 256 % 256 ∷ [] in
+    get_is_one n bytes (i * n) (get_or bytes i 0) e (ap (λ (k : ℕ). get_or bytes k 0) (sym (ap (λ (x : ℕ). i * x) e ∙ mul-one i)))
 
 second_byte : (v q r : ℕ) → v ≡ q * 65536 + r → r / 256 % 256 ≡ v / 256 % 256
 second_byte v q r e =

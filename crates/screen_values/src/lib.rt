@@ -9,25 +9,23 @@ ghost use Rattle.screen.specs.Narrow.{Narrow};
 use screen::{Image, Origin, Screen, ScreenValues, Window};
 
 // The start register of an image.
+#[tactic(auto, unfolding(screen::specs::Image::start_of))]
 fn start_of(rotation: u8, depth: u8, i: Image) -> u64
     ensures { result ≡ start_of rotation depth i }
 {
     let base = i.base as u64;
     let shown = (i.width as u64) * (depth as u64) / 8;
     let last = record_code::minus(i.height as u64, 1) * (i.line as u64);
-    if rotation == 0 {
-        return base / 4;
+    match rotation {
+        0 => base / 4,
+        1 => record_code::minus((base + shown) / 4, 1),
+        2 => record_code::minus((base + last + shown) / 4, 1),
+        _ => (base + last) / 4,
     }
-    if rotation == 1 {
-        return record_code::minus((base + shown) / 4, 1);
-    }
-    if rotation == 2 {
-        return record_code::minus((base + last + shown) / 4, 1);
-    }
-    (base + last) / 4
 }
 
 // Start and line offset of an image.
+#[tactic(auto, unfolding(screen::specs::Values::origin_of))]
 fn origin_of(rotation: u8, depth: u8, i: Image) -> Origin
     ensures { result ≡ origin_of rotation depth i }
 {
@@ -45,16 +43,24 @@ fn edges_of(start: u64, end: u64) -> u64
     start + 65536 * end
 }
 
+// The edges of a side from a point to another, in units of so many points.
+fn edges_in(unit: u32, first: u64, last: u64) -> u64
+    requires { (first < 4294967296) × (last < 4294967296) }
+    ensures { result ≡ edges (first / unit) (last / unit) }
+{
+    edges_of(
+        record_code::quotient(first, unit as u64),
+        record_code::quotient(last, unit as u64),
+    )
+}
+
 // The edges of a side that runs with the panel, in units of so many points.
 fn edges_along(unit: u32, at: u16, size: u16) -> u64
     ensures { result ≡ edges (at / unit) ((at + size - 1) / unit) }
 {
     let first = at as u64;
     let last = record_code::minus(first + size as u64, 1);
-    edges_of(
-        record_code::quotient(first, unit as u64),
-        record_code::quotient(last, unit as u64),
-    )
+    edges_in(unit, first, last)
 }
 
 // The edges of a side that runs against a panel of so many points.
@@ -64,10 +70,7 @@ fn edges_against(unit: u32, panel: u16, at: u16, size: u16) -> u64
     let behind = record_code::minus(panel as u64, at as u64);
     let first = record_code::minus(behind, size as u64);
     let last = record_code::minus(behind, 1);
-    edges_of(
-        record_code::quotient(first, unit as u64),
-        record_code::quotient(last, unit as u64),
-    )
+    edges_in(unit, first, last)
 }
 
 // The Y edges at 90 degrees, where 01 takes the end from the dwords behind x.
@@ -84,6 +87,7 @@ fn edges_at_90(unit: u32, panel: u16, at: u16, size: u16) -> u64
 }
 
 // The X position register of a window on a panel of a width, k pixels to a dword.
+#[tactic(auto, unfolding(screen::specs::Values::window_x))]
 fn window_x(rotation: u8, k: u32, panel: u16, w: Window) -> u64
     ensures { result ≡ window_x rotation k panel w }
 {
@@ -96,6 +100,7 @@ fn window_x(rotation: u8, k: u32, panel: u16, w: Window) -> u64
 }
 
 // The Y position register of a window on a panel of a height, k pixels to a dword.
+#[tactic(auto, unfolding(screen::specs::Values::window_y))]
 fn window_y(rotation: u8, k: u32, panel: u16, w: Window) -> u64
     ensures { result ≡ window_y rotation k panel w }
 {
@@ -108,6 +113,7 @@ fn window_y(rotation: u8, k: u32, panel: u16, w: Window) -> u64
 }
 
 // The six screen register values of a screen.
+#[tactic(auto, unfolding(screen::specs::Values::values_of))]
 pub fn screen_values(s: Screen) -> ScreenValues
     ensures { result ≡ values_of s }
 {

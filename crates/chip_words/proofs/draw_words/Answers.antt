@@ -8,8 +8,6 @@ use Rattle.blit.specs.declared.Mix.TheVariants.{Raster}
 use Rattle.chip_words.proofs.draw_words.Goals as goal
 
 pub returns : goal.returns
-returns c = let a = c.args in record {
-  memory_after = c.put_line.ensures
-      ∙ ap (λ (l : List ℕ). pixels a.bytes (mix_of (Raster a.code) a.bytes) (λ k. a.at + k * a.bytes) (λ x k. get_pixel a.bytes l (k * a.bytes)) a.count a.memory.now) c.gather_words.ensures;
-  source_after = c.gather_words.ensures;
-}
+returns g c = let a = c.args in
+    c.put_line.ensures
+    ∙ ap (λ (l : List ℕ). pixels a.bytes (mix_of (Raster a.code) a.bytes) (λ k. a.at + k * a.bytes) (λ x k. get_pixel a.bytes l (k * a.bytes)) a.count a.memory.now) c.gather_words.ensures

@@ -1,5 +1,4 @@
 use Prim.Native.Nat.{ℕ, ◌≤◌, ◌+◌, ◌<◌}
-use mathlib.Core.Path.{refl, ◌∙◌}
 use native.Mathlib.Omega.{arith}
 use Rattle.chip.specs.Start.{write_of}
 use Rattle.chip.specs.Words.{due_in_line}
@@ -14,13 +13,7 @@ small : (b : Registers) (n : ℕ) (d : Due) (k : ℕ) → k < n → n ≤ due_in
 small b n d k l m w = omega (arith, line_words_fit b n d (omega arith) m w)
 
 pub loop-k-init : goal.loop-k-init
-loop-k-init c = (omega arith, draw_start _ _ _ _ _ _ _, refl)
-
-pub overflow_add-i : goal.overflow_add-i
-overflow_add-i c = omega (arith, c.requires.0)
-
-pub record_at-r-requires : goal.record_at-r-requires
-record_at-r-requires c = omega (arith, c.requires.0)
+loop-k-init c = draw_start _ _ _ _ _ _ _
 
 pub overflow_cast-next : goal.overflow_cast-next
 overflow_cast-next c = omega (arith, small c.args.b c.args.n c.args.d c.loop-k.k c.loop-k-test.true c.requires.1 (omega arith))
@@ -28,24 +21,12 @@ overflow_cast-next c = omega (arith, small c.args.b c.args.n c.args.d c.loop-k.k
 pub overflow_add-next : goal.overflow_add-next
 overflow_add-next c = omega (arith, small c.args.b c.args.n c.args.d c.loop-k.k c.loop-k-test.true c.requires.1 (omega arith))
 
-pub overflow_add-k : goal.overflow_add-k
-overflow_add-k c = omega arith
-
-pub loop-k-smaller : goal.loop-k-smaller
-loop-k-smaller c = omega arith
-
 pub loop-k-preserved : goal.loop-k-preserved
 loop-k-preserved c = let a = c.args in
-    let l = c.loop-k in (
-      omega arith,
-      draw_step a.stream.now a.i a.n (write_of a.b (λ x y. 0)) a.d.line a.d.word a.memory.now l.k l.memory _ c.record_at-r.result c.loop-k-test.true c.record_at-r.ensures c.write_word.ensures l.invariant.1,
-      c.write_word.auto.memory ∙ l.invariant.2,
-    )
-
-pub shape_of-memory : goal.shape_of-memory
-shape_of-memory c = c.loop-k.invariant.2
+    let l = c.loop-k in
+    draw_step a.stream.now a.i a.n (write_of a.b (λ x y. 0)) a.d.line a.d.word a.memory.now l.k l.memory _ c.record_at-r.result c.loop-k-test.true c.record_at-r.ensures c.write_word.ensures l.invariant
 
 pub returns : goal.returns
 returns c = let a = c.args in
     let l = c.loop-k in
-    draw_end a.stream.now a.i a.n (write_of a.b (λ x y. 0)) a.d.line a.d.word a.memory.now l.k l.memory (omega arith) l.invariant.1
+    draw_end a.stream.now a.i a.n (write_of a.b (λ x y. 0)) a.d.line a.d.word a.memory.now l.k l.memory (omega arith) l.invariant

@@ -1,9 +1,0 @@
-use native.Mathlib.Nat.{div-le_self}
-use native.Mathlib.Omega.{arith}
-use Rattle.screen_values.proofs.edges_at_90.Goals as goal
-
-pub edges_of-requires : goal.edges_of-requires
-edges_of-requires c = let k = c.args.unit in omega (arith, c.quotient-end.ensures, c.quotient.ensures, c.minus-behind.ensures, c.minus-first.ensures, c.minus.ensures, div-le_self c.minus-behind.result k, div-le_self c.minus-first.result k)
-
-pub returns : goal.returns
-returns c = simp (c.edges_of.ensures, c.quotient-end.ensures, c.quotient.ensures, c.minus-behind.ensures, c.minus-first.ensures, c.minus.ensures)
