@@ -6,14 +6,16 @@ ghost use Rattle.std.proofs.lemmas.List.Edits.{sets};
 ghost use Rattle.record.specs.Lists.{tabulate};
 ghost use Rattle.pixel.specs.Depth.{is_depth};
 ghost use Rattle.pixel.specs.Pixel.{stored_pixel};
+ghost use Rattle.refusal.specs.Number.{number_of};
 ghost use Rattle.screen.specs.Screen.{memory_size};
 ghost use Rattle.view.specs.Steps.{window_columns};
 ghost use Rattle.reader.specs.Line.{line_number, line_after};
-ghost use Rattle.reader.specs.Looking.{looking, look_number};
+ghost use Rattle.reader.specs.Looking.{looking};
 ghost use Rattle.reader.specs.Along.{Walkable, OneSide, all_inside, colours_from, step_inside, step_colour, Near, Readable, Fillable, cell_bytes, beside};
 
-use reader::{Display, Look};
-use screen::ScreenValues;
+use reader::{Display, Spot};
+use refusal::Refusal;
+use screen::{MEMORY_SIZE, ScreenValues};
 use view::{Columns, Steps};
 
 // Whether the dword after j steps is one of a memory of so many bytes.
@@ -158,47 +160,34 @@ fn fill_line(d: Display, values: ScreenValues, q: u32, c: Columns, memory: &[u8]
     fill_part(d, values, q, c.to, d.width, memory, line);
 }
 
-// The number of a look: 0 where it is refused nothing.
-fn look_number(at: Look) -> u32
-    ensures { result ≡ look_number at }
-{
-    match at {
-        Look::Nowhere(n) => n,
-        Look::At(address, bit) => 0,
-    }
-}
-
-// What panel line q shows in a memory of so many bytes, from where the point reader looks for its column 0: 0, and the line is filled, a colour for
-// each panel column; or the first refusal number, and it is as it was. All checks but 25 are those of column 0; the window's columns are found
+// What panel line q shows in a memory of so many bytes, from where the point reader looks for its column 0: the line is filled, a colour for
+// each panel column; or the first refusal, and it is as it was. All checks but 25 are those of column 0; the window's columns are found
 // once, and the walk goes by steps.
 pub fn read_line_from(
-    at: Look,
+    at: Result<Spot, Refusal>,
     size: u64,
     d: Display,
     values: ScreenValues,
     q: u32,
     memory: &[u8],
     line: &mut [u16],
-) -> u32
+) -> Result<(), Refusal>
     requires { at ≡ looking size d values 0 q (length memory.now) }
-    ensures value { result ≡ line_number size d values q memory.now (length line.old) }
+    ensures value { number_of result ≡ line_number size d values q memory.now (length line.old) }
     ensures line_after { line.new ≡ line_after size d values q memory.now line.old }
 {
-    let n = look_number(at);
-    if n != 0 {
-        return n;
-    }
+    at?;
     let c = view_code::window_columns(d.depth, d.rotation, d.flag, values, d.width, q);
     let inside = is_line_inside(size, d, values, q, c);
     let whole = line.len() == d.width as usize;
     if !inside {
-        return 25;
+        return Err(Refusal::Address);
     }
     if !whole {
-        return 17;
+        return Err(Refusal::Room);
     }
     fill_line(d, values, q, c, memory, line);
-    0
+    Ok(())
 }
 
 // What panel line q shows in a memory of so many bytes.
@@ -209,8 +198,8 @@ pub fn read_line_in(
     q: u32,
     memory: &[u8],
     line: &mut [u16],
-) -> u32
-    ensures value { result ≡ line_number size d values q memory.now (length line.old) }
+) -> Result<(), Refusal>
+    ensures value { number_of result ≡ line_number size d values q memory.now (length line.old) }
     ensures line_after { line.new ≡ line_after size d values q memory.now line.old }
 {
     let at = reader_code::look_for(size, d, values, 0, q, memory.len() as u64);
@@ -218,9 +207,15 @@ pub fn read_line_in(
 }
 
 // The same in the S1D13A05's memory.
-pub fn read_line(d: Display, values: ScreenValues, q: u32, memory: &[u8], line: &mut [u16]) -> u32
-    ensures value { result ≡ line_number memory_size d values q memory.now (length line.old) }
+pub fn read_line(
+    d: Display,
+    values: ScreenValues,
+    q: u32,
+    memory: &[u8],
+    line: &mut [u16],
+) -> Result<(), Refusal>
+    ensures value { number_of result ≡ line_number memory_size d values q memory.now (length line.old) }
     ensures line_after { line.new ≡ line_after memory_size d values q memory.now line.old }
 {
-    read_line_in(262144, d, values, q, memory, line)
+    read_line_in(MEMORY_SIZE, d, values, q, memory, line)
 }
