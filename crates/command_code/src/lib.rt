@@ -5,11 +5,13 @@ ghost use Rattle.std.specs.Prelude.{◌≡◌, ◌≤◌, true, length, drop, re
 ghost use Rattle.record.specs.Bytes.{all_zero, over};
 ghost use Rattle.record.specs.Checks.{first_of};
 ghost use Rattle.screen.specs.Screen.{memory_size};
-ghost use Rattle.command.specs.Command.{command_of, by_operation, last_operation, must_be_zero, zeros_from, pattern_fits, formed, inside_image, placed, line_words, words_taken, command_rows, names_command, refusal, command_answer, number_of};
+ghost use Rattle.command.specs.Command.{command_of, by_operation, last_operation, must_be_zero, zeros_from, pattern_fits, formed, inside_image, placed, line_words, words_taken, command_rows, names_command, refusal, command_answer};
 ghost use Rattle.command.specs.Task.{is_form, is_list};
+ghost use Rattle.refusal.specs.Number.{number, number_of};
 
-use command::{Command, CommandAnswer};
-use screen::{Image, Screen};
+use command::Command;
+use refusal::Refusal;
+use screen::{Image, MEMORY_SIZE, Screen};
 
 // Refusal 10: whether a list has whole records, at most 64, in a form that there is.
 pub fn is_list(form: u32, list: &[u8]) -> bool
@@ -97,9 +99,6 @@ fn is_past_zero(operation: u8, b: &[u8]) -> bool
     last
 }
 
-// Bytes of display memory of the S1D13A05.
-const MEMORY_SIZE: u64 = 262144;
-
 // Whether a pattern and its first pixel are where they can be.
 fn is_pattern(s: Screen, c: Command) -> bool
     ensures { result ≡ pattern_fits memory_size s c }
@@ -174,45 +173,43 @@ pub fn words_taken(s: Screen, c: Command) -> u32
     line_words(s.depth, c.width) * c.height as u32
 }
 
-// Whether a refusal number names the command that is refused.
-pub fn names_command(n: u32) -> bool
-    ensures { result ≡ names_command n }
+// Whether a refusal names the command that is refused.
+#[tactic(auto, unfolding(refusal::specs::Number::number))]
+pub fn names_command(r: Refusal) -> bool
+    ensures { result ≡ names_command (number r) }
 {
-    ((12 <= n) & (n <= 15)) | (n == 29)
+    matches!(
+        r,
+        Refusal::CommandForm
+            | Refusal::EmptyRectangle
+            | Refusal::Outside
+            | Refusal::FewWords
+            | Refusal::Shared
+    )
 }
 
-// The numbers of the checks of a command, in their order.
-const COMMAND_CHECKS: [u32; 5] = [12, 13, 14, 29, 15];
-
-// The first of 12 to 15 and 29 that holds, with so many host words left; 0 for none.
-fn refusal_of(s: Screen, left: u64, b: &[u8], c: Command) -> u32
+// The first of 12 to 15 and 29 that holds, with so many host words left.
+fn check_command(s: Screen, left: u64, b: &[u8], c: Command) -> Result<(), Refusal>
     requires { is_form (length b.now) ≡ true }
-    ensures { result ≡ first_of (command_rows memory_size s left b.now c) }
+    ensures { number_of result ≡ first_of (command_rows memory_size s left b.now c) }
 {
-    let formed = is_formed(s, b, c);
-    let placed = is_placed(s, c);
-    let clash = command_share::is_clash(s, c);
     let words = words_taken(s, c) as u64;
-    let fails = [
-        !formed,
-        (c.width == 0) | (c.height == 0),
-        !placed,
-        clash,
-        left < words,
-    ];
-    record_code::first_of(&COMMAND_CHECKS, &fails)
+    record_code::first_of(&[
+        (Refusal::CommandForm, !is_formed(s, b, c)),
+        (Refusal::EmptyRectangle, (c.width == 0) | (c.height == 0)),
+        (Refusal::Outside, !is_placed(s, c)),
+        (Refusal::Shared, command_share::is_clash(s, c)),
+        (Refusal::FewWords, left < words),
+    ])
 }
 
-// The command of a part of the list, a record in one of its forms, or the first refusal number of 12 to 15 and 29.
-pub fn read_command(s: Screen, left: u64, b: &[u8]) -> CommandAnswer
+// The command of a part of the list, a record in one of its forms, or the first refusal of 12 to 15 and 29.
+pub fn read_command(s: Screen, left: u64, b: &[u8]) -> Result<Command, Refusal>
     requires { is_form (length b.now) ≡ true }
     ensures value { result ≡ command_answer memory_size s left b.now }
     ensures result_value { number_of result ≡ refusal memory_size s left b.now }
 {
     let c = command_of(b);
-    let n = refusal_of(s, left, b, c);
-    if n == 0 {
-        return CommandAnswer::Accepted(c);
-    }
-    CommandAnswer::Refused(n)
+    check_command(s, left, b, c)?;
+    Ok(c)
 }

@@ -3,10 +3,12 @@
 
 ghost use Rattle.std.specs.Prelude.{◌≡◌, ◌+◌, ◌-◌, ◌≤◌, true, length, take, replicate};
 ghost use Rattle.ring.specs.Samples.{steps_to};
-ghost use Rattle.ring.specs.Kept.{empty_ring, slot_of, takes as takesSample, hours_on, blanked, taking, slot_hour, hour_in, telling_of, hour_of, heights_of, ring_in, cells_of};
+ghost use Rattle.ring.specs.Kept.{empty_ring, slot_of, takes as takesSample, hours_on, blanked, taking, taken_of, slot_hour, hour_in, telling_of, hour_of, heights_of, ring_in, cells_of};
+ghost use Rattle.refusal.specs.Number.{number_of};
 ghost use Rattle.ring_code.specs.View.{ring_of};
 
-use ring::{Hour, Ring, Taken};
+use refusal::Refusal;
+use ring::Ring;
 
 // An empty ring.
 pub fn new_ring() -> Ring
@@ -70,11 +72,11 @@ fn blank(cells: &mut [u16], from: usize, n: u16, hours: u32)
 }
 
 // Takes a sample into the ring, or says why not.
-pub fn take_sample(ring: Ring, sequence: u16, height: u32) -> Taken
-    ensures { result ≡ taking ring sequence height }
+pub fn take_sample(ring: Ring, sequence: u16, height: u32) -> Result<Ring, Refusal>
+    ensures { result ≡ taken_of (taking ring sequence height) }
 {
     if !takes(ring.any, ring.newest, sequence, height) {
-        return Taken { number: 27, ring };
+        return Err(Refusal::WearRange);
     }
     let hours = hours_on(ring.any, ring.newest, sequence);
     let mut numbers = ring.numbers;
@@ -83,28 +85,25 @@ pub fn take_sample(ring: Ring, sequence: u16, height: u32) -> Taken
     let at = slot_of(sequence, 0);
     numbers[at] = sequence;
     heights[at] = (height + 1) as u16;
-    Taken {
-        number: 0,
-        ring: Ring {
-            any: 1,
-            newest: sequence,
-            numbers,
-            heights,
-        },
-    }
+    Ok(Ring {
+        any: 1,
+        newest: sequence,
+        numbers,
+        heights,
+    })
 }
 
 // The same in place, for a ring as 1,026 numbers. A view that lends both forms to be written would be no plainer: each of its four parts
 // is a loan of its own, with a clause of its own.
-fn take_cells(cells: &mut [u16], sequence: u16, height: u32) -> u32
+fn take_cells(cells: &mut [u16], sequence: u16, height: u32) -> Result<(), Refusal>
     requires { length cells.old ≡ 1026 }
-    ensures value { result ≡ (taking (ring_in cells.old) sequence height).number }
+    ensures value { number_of result ≡ (taking (ring_in cells.old) sequence height).number }
     ensures cells_after { cells.new ≡ cells_of (taking (ring_in cells.old) sequence height).ring }
 {
     let any = cells[0];
     let newest = cells[1];
     if !takes(any, newest, sequence, height) {
-        return 27;
+        return Err(Refusal::WearRange);
     }
     let hours = hours_on(any, newest, sequence);
     blank(cells, 514, sequence, hours - 1);
@@ -113,27 +112,33 @@ fn take_cells(cells: &mut [u16], sequence: u16, height: u32) -> u32
     cells[1] = sequence;
     cells[2 + at] = sequence;
     cells[514 + at] = (height + 1) as u16;
-    0
+    Ok(())
 }
 
 // The same for a ring as a C caller holds it.
-pub fn take_into(cells: &mut [u16; 1026], sequence: u16, height: u32) -> u32
-    ensures value { result ≡ (taking (ring_in cells.old) sequence height).number }
+pub fn take_into(cells: &mut [u16; 1026], sequence: u16, height: u32) -> Result<(), Refusal>
+    ensures value { number_of result ≡ (taking (ring_in cells.old) sequence height).number }
     ensures cells_after { cells.new ≡ cells_of (taking (ring_in cells.old) sequence height).ring }
 {
     take_cells(cells, sequence, height)
 }
 
 // What is told of the hour of an age from its slot: the number of the sample there, and one more than its height.
-fn slot_hour(any: u16, newest: u16, number: u16, held: u16, age: u32) -> Hour
+fn slot_hour(
+    any: u16,
+    newest: u16,
+    number: u16,
+    held: u16,
+    age: u32,
+) -> Result<Option<u32>, Refusal>
     ensures result_value { telling_of result ≡ slot_hour any newest number held age }
     ensures value { result ≡ hour_of (slot_hour any newest number held age) }
 {
     let at = steps_to(number, newest) as u32;
     if (any != 0) & ((at == age) & ((1 <= held) & (held <= 101))) {
-        return Hour::Sample(held as u32 - 1);
+        return Ok(Some(held as u32 - 1));
     }
-    Hour::Blank
+    Ok(None)
 }
 
 // A ring lent to be read: a Ring's parts, or those of a C caller's numbers.
@@ -172,22 +177,23 @@ fn view_in(cells: &[u16; 1026]) -> View<'_>
         heights: &cells[514..1026],
     }
 }
+
 // What a ring tells of the hour of an age.
-fn hour_told(v: View, age: u32) -> Hour
+fn hour_told(v: View, age: u32) -> Result<Option<u32>, Refusal>
     requires numbers_len { length v.numbers.now ≡ 512 }
     requires heights_len { length v.heights.now ≡ 512 }
     ensures result_value { telling_of result ≡ hour_in (ring_of v.entry) age }
     ensures value { result ≡ hour_of (hour_in (ring_of v.entry) age) }
 {
     if 511 < age {
-        return Hour::Refused(27);
+        return Err(Refusal::WearRange);
     }
     let k = slot_of(v.newest, age);
     slot_hour(v.any, v.newest, v.numbers[k], v.heights[k], age)
 }
 
 // What the ring tells of the hour of an age.
-pub fn hour_at(ring: Ring, age: u32) -> Hour
+pub fn hour_at(ring: Ring, age: u32) -> Result<Option<u32>, Refusal>
     ensures result_value { telling_of result ≡ hour_in ring age }
     ensures value { result ≡ hour_of (hour_in ring age) }
 {
@@ -195,7 +201,7 @@ pub fn hour_at(ring: Ring, age: u32) -> Hour
 }
 
 // The same of a ring as a C caller holds it.
-pub fn hour_in(cells: &[u16; 1026], age: u32) -> Hour
+pub fn hour_in(cells: &[u16; 1026], age: u32) -> Result<Option<u32>, Refusal>
     ensures result_value { telling_of result ≡ hour_in (ring_in cells.now) age }
     ensures value { result ≡ hour_of (hour_in (ring_in cells.now) age) }
 {
@@ -203,13 +209,13 @@ pub fn hour_in(cells: &[u16; 1026], age: u32) -> Hour
 }
 
 // The height that is told of an hour; 0 where there is none.
-fn height_of(hour: Hour) -> u32
+#[tactic(auto, unfolding(ring::specs::Kept::telling_of))]
+fn height_of(hour: Result<Option<u32>, Refusal>) -> u32
     ensures { result ≡ (telling_of hour).height }
 {
     match hour {
-        Hour::Sample(height) => height,
-        Hour::Blank => 0,
-        Hour::Refused(_) => 0,
+        Ok(Some(height)) => height,
+        Ok(None) | Err(_) => 0,
     }
 }
 
