@@ -1,7 +1,0 @@
-use Rattle.record.specs.Checks.{rows_with}
-use Rattle.screen.specs.Screen.{field_rows}
-use Rattle.screen_code.proofs.first_fault.Goals as goal
-
-pub returns : goal.returns
-unfolding field_rows rows_with
-returns c = simp (c.first_of.ensures, c.is_image-2.ensures, c.is_line-2.ensures, c.is_window_whole.ensures, c.is_window.ensures, c.is_image.ensures, c.is_line.ensures, c.is_whole.ensures, c.is_panel.ensures, c.is_depth.ensures, c.window_image-window.ensures, c.main_image-main.ensures)
