@@ -1,4 +1,5 @@
-// The answers of compiling, playing, reading and drawing, of the ring and of the strip as the C library's structs of numbers.
+// The answers of compiling, playing, reading and drawing, of the ring and of the strip as the C library's structs of numbers: functions,
+// since both types of each conversion are another crate's, where no `impl From` can stand, and four of them require something of the values.
 #![tactic(auto)]
 
 ghost use Rattle.std.specs.Prelude.{◌≡◌, ◌^◌, ◌<◌};
@@ -66,7 +67,7 @@ pub fn played_of(a: Played) -> Answer
         Played::Refused(fault, index) => Answer {
             number: fault,
             place: index,
-            values: [0, 0, 0, 0, 0, 0],
+            values: [0; 6],
         },
     }
 }
@@ -108,7 +109,7 @@ pub fn drawn_of(a: Drawn) -> S1dDrawn
             number,
             place: command,
             length: 0,
-            values: [0, 0, 0, 0, 0, 0],
+            values: [0; 6],
         },
     }
 }

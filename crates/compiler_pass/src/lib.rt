@@ -41,13 +41,9 @@ pub fn first_pass(form: u32, s: Screen, list: &[u8], left: u64) -> Pass
     ensures value { result ≡ pass_of memory_size s left (parts_of form list.now) }
     ensures used_bound { result.used ≤ 64 * 4294967295 }
 {
-    let size = form as usize;
-    let count = list.len() / size;
     let mut used: u64 = 0;
-    for i in 0..count {
-        let at = i * size;
-        let end = at + size;
-        let answer = command_code::read_command(s, left - used, &list[at..end]);
+    for (i, part) in list.chunks_exact(form as usize).enumerate() {
+        let answer = command_code::read_command(s, left - used, part);
         match answer {
             CommandAnswer::Refused(n) => {
                 return Pass {
@@ -131,14 +127,10 @@ pub fn second_pass(form: u32, s: Screen, list: &[u8], words: &[u16], buffer: &mu
     requires list_in_bounds { 48 + 8 * length (draw_records s words.now (parts_of form list.now)) ≤ length buffer.old }
     ensures { buffer.new ≡ sets buffer.old 48 (stream_bytes (draw_records s words.now (parts_of form list.now))) }
 {
-    let size = form as usize;
-    let commands = list.len() / size;
     let mut used: usize = 0;
     let mut at: usize = 48;
-    for i in 0..commands {
-        let from = i * size;
-        let to = from + size;
-        let c = command_code::command_of(&list[from..to]);
+    for part in list.chunks_exact(form as usize) {
+        let c = command_code::command_of(part);
         let n = command_code::words_taken(s, c) as usize;
         let end = used + n;
         put_command(s, c, buffer, at, &words[used..end]);

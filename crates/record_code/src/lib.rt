@@ -71,6 +71,7 @@ pub fn put_record(buffer: &mut [u8], at: usize, r: Record)
 }
 
 // Record i of a stream.
+#[tactic(auto, unfolding(record::specs::Record::record_at))]
 pub fn record_at(stream: &[u8], i: usize) -> Record
     requires { 8 * i + 8 ≤ length stream.now }
     ensures { result ≡ record_at stream.now i }

@@ -55,7 +55,8 @@ pub extern "C" fn s1d_play(stream: &[u8], memory: &mut [u8]) -> Answer
 }
 
 // Where the point reader looks for panel point (p, q), in a memory of so many bytes of which so many are lent, for both chips. It is lent no
-// memory, since a pointer and a length that come from C are slow to hand on.
+// memory, since a pointer and a length that come from C are slow to hand on. A Display in place of its five numbers, here and in line_in,
+// makes points and short lines slower to read, and so does the size as a const parameter.
 fn look_in(
     depth: u32,
     rotation: u32,

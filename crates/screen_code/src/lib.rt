@@ -11,6 +11,7 @@ use refusal::Refusal;
 use screen::{Image, MEMORY_SIZE, Screen, Window};
 
 // The record's fields.
+#[tactic(auto, unfolding(screen::specs::Screen::fields_of))]
 fn fields(b: &[u8]) -> Screen
     requires { length b.now ≡ 32 }
     ensures { result ≡ fields_of b.now }
@@ -36,6 +37,7 @@ fn fields(b: &[u8]) -> Screen
 }
 
 // Refusal 1: whether the record has its length, a flag of 0 or 1, and zero where it must be.
+#[tactic(auto, unfolding(screen::specs::Screen::well_formed))]
 fn is_well_formed(b: &[u8]) -> bool
     ensures { result ≡ well_formed b.now }
 {
@@ -63,12 +65,14 @@ pub fn is_quarter(rotation: u32) -> bool
     matches!(rotation, 1 | 3)
 }
 
+#[tactic(auto, unfolding(screen::specs::Screen::view_width))]
 pub fn view_width(rotation: u32, width: u32, height: u32) -> u32
     ensures { result ≡ view_width rotation width height }
 {
     if is_quarter(rotation) { height } else { width }
 }
 
+#[tactic(auto, unfolding(screen::specs::Screen::view_height))]
 pub fn view_height(rotation: u32, width: u32, height: u32) -> u32
     ensures { result ≡ view_height rotation width height }
 {
@@ -76,6 +80,7 @@ pub fn view_height(rotation: u32, width: u32, height: u32) -> u32
 }
 
 // Whether n is a multiple of 32 ÷ depth.
+#[tactic(auto, unfolding(screen::specs::Screen::whole_dwords))]
 pub fn is_whole(depth: u32, n: u32) -> bool
     ensures { result ≡ whole_dwords depth n }
 {
@@ -98,6 +103,7 @@ fn line_pixels(given: u16, width: u16) -> u16
 }
 
 // Refusal 26: whether a line length that is given has room for what is shown, is whole dwords, and not over 1,023 of them.
+#[tactic(auto, unfolding(screen::specs::Screen::line_ok))]
 fn is_line(depth: u8, given: u16, width: u16) -> bool
     ensures { result ≡ line_ok depth given width }
 {
@@ -109,6 +115,7 @@ fn is_line(depth: u8, given: u16, width: u16) -> bool
 }
 
 // The main image.
+#[tactic(auto, unfolding(screen::specs::Screen::main_image))]
 pub fn main_image(s: Screen) -> Image
     ensures { result ≡ main_image s }
 {
@@ -124,6 +131,7 @@ pub fn main_image(s: Screen) -> Image
 }
 
 // The window's image.
+#[tactic(auto, unfolding(screen::specs::Screen::window_image))]
 pub fn window_image(s: Screen) -> Image
     ensures { result ≡ window_image s }
 {
@@ -138,6 +146,7 @@ pub fn window_image(s: Screen) -> Image
 }
 
 // One past the byte of the image's last shown pixel.
+#[tactic(auto, unfolding(screen::specs::Image::image_end))]
 fn image_end(depth: u8, i: Image) -> u64
     ensures { result ≡ image_end depth i }
 {
@@ -146,6 +155,7 @@ fn image_end(depth: u8, i: Image) -> u64
 }
 
 // Refusals 6 and 9: whether the image lies in the memory, on a dword.
+#[tactic(auto, unfolding(screen::specs::Screen::image_ok))]
 fn is_image(memory: u64, depth: u8, i: Image) -> bool
     ensures { result ≡ image_ok memory depth i }
 {
@@ -153,6 +163,7 @@ fn is_image(memory: u64, depth: u8, i: Image) -> bool
 }
 
 // Refusal 7: whether the window has pixels, and lies in the view.
+#[tactic(auto, unfolding(screen::specs::Screen::window_ok))]
 fn is_window(s: Screen) -> bool
     ensures { result ≡ window_ok s }
 {
@@ -165,6 +176,7 @@ fn is_window(s: Screen) -> bool
 }
 
 // Refusal 8: whether window x and width are whole dwords.
+#[tactic(auto, unfolding(screen::specs::Screen::window_whole))]
 fn is_window_whole(s: Screen) -> bool
     ensures { result ≡ window_whole s }
 {

@@ -1,58 +1,76 @@
-use Prim.Native.Nat.{ℕ, ◌-◌, ◌*◌, ◌+◌}
-use mathlib.Core.Path.{◌≡◌, sym, ap, ◌∙◌}
-use mathlib.Core.List.{List}
-use Rattle.screen.specs.declared.Screen.{Screen}
-use Rattle.command.specs.declared.CommandAnswer.{CommandAnswer}
-use native.Mathlib.Nat.{add-sub_cancel_left}
+use Prim.Native.Nat.{ℕ, ◌+◌, ◌<◌, ◌-◌}
+use mathlib.Core.Path.{ap, sym, ◌∙◌}
+use native.Mathlib.Nat.{zero-mul}
 use native.Mathlib.Omega.{arith}
-use lib.ListN.{length, take, drop}
+use lib.ListN.{length}
+use Rattle.std.specs.Iterator.Adapters.{enumerate_source}
+use Rattle.std.specs.Slice.Iter.{chunks_exact_rest}
+use Rattle.std.proofs.lemmas.List.{length_push}
 use Rattle.screen.specs.Screen.{memory_size}
 use Rattle.command.specs.Command.{command_answer}
-use Rattle.command.proofs.Forms.{form_least, part_ends, part_formed, count_most}
-use Rattle.compiler.proofs.FirstPass.{part_at, going_start, going_turn, words_fit, pass_refused, pass_done}
+use Rattle.command.specs.Task.{is_form}
+use Rattle.command.proofs.Forms.{form_least, count_most}
+use Rattle.compiler.proofs.FirstPass.{going_start, going_turn, words_fit, pass_refused, pass_done}
+use Rattle.compiler_pass.proofs.Parts.{cut, cut_end}
 use Rattle.compiler_pass.proofs.first_pass.Goals as goal
 
--- the answer is that to command i
-answered : (s : Screen) (form : ℕ) (list : List ℕ) (left i : ℕ) (r : CommandAnswer)
-    → r ≡ command_answer memory_size s left (take (i * form + form - i * form) (drop (i * form) list))
-    → command_answer memory_size s left (part_at form list i) ≡ r
-answered s form list left i r e =
-    ap (λ (n : ℕ). command_answer memory_size s left (take n (drop (i * form) list))) (sym (add-sub_cancel_left (i * form) form)) ∙ sym e
-
-pub nonzero_div-count : goal.nonzero_div-count
-nonzero_div-count c = omega (arith, form_least c.args.form c.requires.form_value)
-
 pub loop-i-init : goal.loop-i-init
-loop-i-init c = going_start _ _ _ _ _
-
-pub overflow_mul-at : goal.overflow_mul-at
-overflow_mul-at c = omega (arith, part_ends c.args.form (length c.args.list.now) c.loop-i.i (omega (arith, c.loop-i-test.true, c.loop-i.invariant.count_is)))
-
-pub overflow_add-end : goal.overflow_add-end
-overflow_add-end c = omega (arith, part_ends c.args.form (length c.args.list.now) c.loop-i.i (omega (arith, c.loop-i-test.true, c.loop-i.invariant.count_is)))
-
-pub slice_bounds-read_command-end : goal.slice_bounds-read_command-end
-slice_bounds-read_command-end c = omega (arith, part_ends c.args.form (length c.args.list.now) c.loop-i.i (omega (arith, c.loop-i-test.true, c.loop-i.invariant.count_is)))
+loop-i-init c = record { going = going_start _ _ _ _ _; count = cc; size = cc; rest = rw zero-mul (cc) }
 
 pub read_command-answer-requires : goal.read_command-answer-requires
-read_command-answer-requires c = part_formed c.args.form c.args.list.now c.loop-i.i c.requires.form_value (omega (arith, c.loop-i-test.true, c.loop-i.invariant.count_is))
+read_command-answer-requires c = let a = c.args in
+    let l = c.loop-i in
+    let i = length l.yielded in
+    let some : 0 < a.form = omega (arith, form_least a.form c.requires.form_value) in
+    let step = c.in-Some.ensures.steps.0 in
+    ap is_form (step.1.1 ∙ l.invariant.size) ∙ c.requires.form_value
 
 pub returns-in-Refused-clause-value : goal.returns-in-Refused-clause-value
-returns-in-Refused-clause-value c = let l = c.loop-i in
-    pass_refused _ _ _ _ _ _ l.i l.used l.invariant _ c.loop-i-test.true (answered _ c.args.form c.args.list.now _ c.loop-i.i _ c.read_command-answer.ensures.value ∙ c.in-Refused.is)
+returns-in-Refused-clause-value c = let a = c.args in
+    let l = c.loop-i in
+    let i = length l.yielded in
+    let some : 0 < a.form = omega (arith, form_least a.form c.requires.form_value) in
+    let step = c.in-Some.ensures.steps.0 in
+    let t = cut a.form a.list.now some (chunks_exact_rest (enumerate_source l.i-iterator)) i l.invariant.rest c.in-Some.part.now (chunks_exact_rest (enumerate_source c.next.new.self)) step.1.0 (step.1.1 ∙ l.invariant.size) in
+    let answer = ap (command_answer memory_size a.s (a.left - l.used)) (sym t.part_is) ∙ sym c.read_command-answer.ensures.value in
+    let n = c.in-Refused.n in
+    let place = c.in-Some.ensures.steps.1 ∙ l.invariant.count in
+    ap (λ (k : ℕ). record { number = n; place = k; used = 0 }) place
+    ∙ pass_refused _ _ _ _ _ _ i l.used l.invariant.going n t.more (answer ∙ c.in-Refused.is)
 
 pub overflow_add-used : goal.overflow_add-used
-overflow_add-used c = let l = c.loop-i in
-    omega (arith, c.words_taken.ensures, words_fit _ _ _ _ _ _ l.i l.used l.invariant _ (answered _ c.args.form c.args.list.now _ c.loop-i.i _ c.read_command-answer.ensures.value ∙ c.in-Accepted.is))
+overflow_add-used c = let a = c.args in
+    let l = c.loop-i in
+    let i = length l.yielded in
+    let some : 0 < a.form = omega (arith, form_least a.form c.requires.form_value) in
+    let step = c.in-Some.ensures.steps.0 in
+    let t = cut a.form a.list.now some (chunks_exact_rest (enumerate_source l.i-iterator)) i l.invariant.rest c.in-Some.part.now (chunks_exact_rest (enumerate_source c.next.new.self)) step.1.0 (step.1.1 ∙ l.invariant.size) in
+    let answer = ap (command_answer memory_size a.s (a.left - l.used)) (sym t.part_is) ∙ sym c.read_command-answer.ensures.value in
+    omega (arith, c.words_taken.ensures, words_fit _ _ _ _ _ _ i l.used l.invariant.going _ (answer ∙ c.in-Accepted.is))
 
 pub loop-i-preserved : goal.loop-i-preserved
-loop-i-preserved c = let l = c.loop-i in
-    rw c.words_taken.ensures
-    (going_turn _ _ _ _ _ _ l.i l.used l.invariant _ c.loop-i-test.true (omega (arith, c.words_taken.ensures, c.words_taken.type_inv)) (answered _ c.args.form c.args.list.now _ c.loop-i.i _ c.read_command-answer.ensures.value ∙ c.in-Accepted.is))
+loop-i-preserved c = let a = c.args in
+    let l = c.loop-i in
+    let i = length l.yielded in
+    let some : 0 < a.form = omega (arith, form_least a.form c.requires.form_value) in
+    let step = c.in-Some.ensures.steps.0 in
+    let t = cut a.form a.list.now some (chunks_exact_rest (enumerate_source l.i-iterator)) i l.invariant.rest c.in-Some.part.now (chunks_exact_rest (enumerate_source c.next.new.self)) step.1.0 (step.1.1 ∙ l.invariant.size) in
+    let answer = ap (command_answer memory_size a.s (a.left - l.used)) (sym t.part_is) ∙ sym c.read_command-answer.ensures.value in
+    record {
+      going = rw (length_push, c.words_taken.ensures)
+          (going_turn _ _ _ _ _ _ i l.used l.invariant.going _ t.more (omega (arith, c.words_taken.ensures, c.words_taken.type_inv)) (answer ∙ c.in-Accepted.is));
+      count = rw length_push (c.in-Some.ensures.steps.2 ∙ ap (λ (k : ℕ). k + 1) l.invariant.count);
+      size = step.0 ∙ l.invariant.size;
+      rest = rw length_push t.rest_is;
+    }
 
 pub returns-clause-value : goal.returns-clause-value
-returns-clause-value c = let l = c.loop-i in pass_done _ _ _ _ _ _ l.i l.used l.invariant (omega arith)
+returns-clause-value c = let a = c.args in
+    let l = c.loop-i in
+    let some : 0 < a.form = omega (arith, form_least a.form c.requires.form_value) in
+    let less = c.in-None.ensures.steps.0.1.0 in
+    pass_done _ _ _ _ _ _ (length l.yielded) l.used l.invariant.going (cut_end a.form a.list.now some (chunks_exact_rest (enumerate_source l.i-iterator)) (length l.yielded) l.invariant.rest (omega (arith, less, l.invariant.size)))
 
 pub returns-clause-used_bound : goal.returns-clause-used_bound
-returns-clause-used_bound c = let l = c.loop-i in
-    omega (arith, l.invariant.small, l.invariant.within, count_most c.args.form (length c.args.list.now) c.requires.list_len_bound)
+returns-clause-used_bound c = let g = c.loop-i.invariant.going in
+    omega (arith, g.small, g.within, count_most c.args.form (length c.args.list.now) c.requires.list_len_bound)

@@ -1,6 +1,6 @@
 use Prim.Native.Nat.{ℕ, ◌<◌}
 use native.Mathlib.Omega.{arith}
-use Rattle.screen.specs.Screen.{main_image, view_width, view_height}
+use Rattle.screen.specs.Screen.{view_width, view_height}
 use Rattle.screen.proofs.View.{view_sides}
 use Rattle.screen_code.proofs.main_image.Goals as goal
 
@@ -13,7 +13,3 @@ overflow_cast-width c = omega (arith, c.view_width-width.ensures, below c.args.s
 
 pub overflow_cast-height : goal.overflow_cast-height
 overflow_cast-height c = omega (arith, c.view_height-height.ensures, below c.args.s.rotation c.args.s.width c.args.s.height (omega arith) (omega arith))
-
-pub returns : goal.returns
-unfolding main_image
-returns c = simp (c.line_bytes-line.ensures, c.line_pixels.ensures, c.view_height-height.ensures, c.view_width-width.ensures)
