@@ -1,26 +1,18 @@
+use Prim.Native.Nat.{ℕ}
+use mathlib.Core.Path.{◌≡◌, sym, ap, ◌∙◌}
 use mathlib.Core.Bool.{not}
-use mathlib.Core.Path.{ap}
-use Rattle.record.proofs.Choice.{negated}
-use Rattle.wear.proofs.Lists.{fault_2, fault_11, fault_12, fault_hours, fault_column, fault_font, fault_none}
-use Rattle.wear_code.proofs.fault_of.Goals as goal
+use mathlib.Core.Logic.{⊎_elim}
+use lib.Dec.{leb, ltb}
+use borrow.Author.Tests.{lt-leb, le-leb, lt-ltb, le-ltb}
+use Rattle.record.proofs.Choice.{below_or_not}
+use Rattle.refusal.specs.Number.{number, rows_by}
+use Rattle.wear.specs.Strip.{ask_rows}
+use Rattle.wear_code.proofs.check_ask.Goals as goal
 
-pub returns-then-not-is_depth : goal.returns-then-not-is_depth
-returns-then-not-is_depth c = fault_2 c.args.a c.args.factory (negated c.is_depth.ensures (ap not c.if-not-is_depth.true))
-
-pub returns-then-d-lt8 : goal.returns-then-d-lt8
-returns-then-d-lt8 c = fault_11 c.args.a c.args.factory (negated c.is_depth.ensures (ap not c.if-not-is_depth.false)) c.if-d-lt8.true
-
-pub returns-then-d-a : goal.returns-then-d-a
-returns-then-d-a c = fault_12 c.args.a c.args.factory (negated c.is_depth.ensures (ap not c.if-not-is_depth.false)) c.if-d-lt8.false c.if-d-a.true
-
-pub returns-then-not-a : goal.returns-then-not-a
-returns-then-not-a c = fault_hours c.args.a c.args.factory (negated c.is_depth.ensures (ap not c.if-not-is_depth.false)) c.if-d-lt8.false c.if-d-a.false (ap not c.if-not-a.true)
-
-pub returns-then-not-a-2 : goal.returns-then-not-a-2
-returns-then-not-a-2 c = fault_column c.args.a c.args.factory (negated c.is_depth.ensures (ap not c.if-not-is_depth.false)) c.if-d-lt8.false c.if-d-a.false (ap not c.if-not-a.false) (ap not c.if-not-a-2.true)
-
-pub returns-then-factory-lt80 : goal.returns-then-factory-lt80
-returns-then-factory-lt80 c = fault_font c.args.a c.args.factory (negated c.is_depth.ensures (ap not c.if-not-is_depth.false)) c.if-d-lt8.false c.if-d-a.false (ap not c.if-not-a.false) (ap not c.if-not-a-2.false) c.if-factory-lt80.true
+-- a font under 80 bytes is no factory font
+below : (n : ℕ) → ltb n 80 ≡ not (leb 80 n)
+below n = ⊎_elim (λ h. lt-ltb n 80 h ∙ sym (ap not (lt-leb 80 n h))) (λ h. le-ltb n 80 h ∙ sym (ap not (le-leb 80 n h))) (below_or_not n 80)
 
 pub returns : goal.returns
-returns c = fault_none c.args.a c.args.factory (negated c.is_depth.ensures (ap not c.if-not-is_depth.false)) c.if-d-lt8.false c.if-d-a.false (ap not c.if-not-a.false) (ap not c.if-not-a-2.false) c.if-factory-lt80.false
+unfolding ask_rows rows_by number
+returns c = simp (c.first_of.ensures, c.is_depth.ensures, below)
