@@ -1,4 +1,4 @@
-// The answers of compiling, playing, reading and drawing, of the ring and of the strip as the C library's structs of numbers: functions,
+// The answers of compiling, playing, reading and drawing, of the ring, of the strip and of turning as the C library's structs: functions,
 // since both types of each conversion are another crate's, where no `impl From` can stand, and four of them require something of the values.
 #![tactic(auto)]
 
@@ -12,37 +12,50 @@ ghost use Rattle.serial.specs.Serial.{answer_of};
 ghost use Rattle.ring.specs.Kept.{telling_of};
 ghost use Rattle.wear.specs.Font.{finding_of};
 ghost use Rattle.wear.specs.Strip.{stripping_of};
+ghost use Rattle.form.specs.Turn.{turned_of};
+ghost use Rattle.refusal.specs.Number.{number_of};
 ghost use Rattle.answers.specs.Answers.{compiled_of, point_of, drawn_of, values_in, hour_given, strip_given, glyph_given};
 
 use answers::{S1dCompiled, S1dDrawn, S1dGlyph, S1dHour, S1dPoint, S1dStrip, S1dValues};
-use chip::Played;
 use compiler::Compiled;
-use reader::PointAnswer;
-use ring::Hour;
+use form::Turned;
+use reader::Point;
+use refusal::{Refusal, Refused};
 use screen::ScreenValues;
 use serial::Answer;
 use unit::Drawn;
-use wear::{GlyphAnswer, StripAnswer};
+use wear::{Glyph, Made};
+
+// The number of an answer that gives nothing else: 0, or its refusal's.
+#[tactic(auto, unfolding(refusal::specs::Number::number_of))]
+pub fn number_of(a: Result<(), Refusal>) -> u32
+    ensures { result ≡ number_of a }
+{
+    match a {
+        Ok(()) => 0,
+        Err(refusal) => refusal.number(),
+    }
+}
 
 // Compiling's answer, with the refused command's part of the list.
-pub fn compiled_of(form: u32, c: Compiled, list: &[u8]) -> S1dCompiled
+pub fn compiled_of(form: u32, c: Result<Compiled, Refused>, list: &[u8]) -> S1dCompiled
     ensures { result ≡ compiled_of form (compiling_of c) list.now }
 {
     let part = compiler_code::part_of(form, list, c);
     match c {
-        Compiled::Accepted(length, depth, rotation, flag) => S1dCompiled {
+        Ok(made) => S1dCompiled {
             number: 0,
             place: 0,
-            length,
-            depth,
-            rotation,
-            flag,
+            length: made.length,
+            depth: made.depth,
+            rotation: made.rotation,
+            flag: made.flag,
             part_at: part.at,
             part_length: part.length,
         },
-        Compiled::Refused(number, place) => S1dCompiled {
-            number,
-            place,
+        Err(refused) => S1dCompiled {
+            number: refused.refusal.number(),
+            place: refused.place,
             length: 0,
             depth: 0,
             rotation: 0,
@@ -54,38 +67,38 @@ pub fn compiled_of(form: u32, c: Compiled, list: &[u8]) -> S1dCompiled
 }
 
 // Playing's answer.
-pub fn played_of(a: Played) -> Answer
+pub fn played_of(a: Result<ScreenValues, Refused>) -> Answer
     requires { Narrow (playing_of a).values }
     ensures { result ≡ answer_of (playing_of a) }
 {
     match a {
-        Played::Accepted(v) => Answer {
+        Ok(v) => Answer {
             number: 0,
             place: 0,
             values: screen_values::six_values(v),
         },
-        Played::Refused(fault, index) => Answer {
-            number: fault,
-            place: index,
+        Err(fault) => Answer {
+            number: fault.refusal.number(),
+            place: fault.place,
             values: [0; 6],
         },
     }
 }
 
 // The point reader's answer.
-pub fn point_of(a: PointAnswer) -> S1dPoint
+pub fn point_of(a: Result<Point, Refusal>) -> S1dPoint
     requires { (reading_of a).address < 2 ^ 32 }
     ensures { result ≡ point_of (reading_of a) }
 {
     match a {
-        PointAnswer::Shown(colour, at, highest) => S1dPoint {
+        Ok(point) => S1dPoint {
             number: 0,
-            colour: colour as u32,
-            address: at as u32,
-            bit: highest,
+            colour: point.colour as u32,
+            address: point.address as u32,
+            bit: point.bit,
         },
-        PointAnswer::Refused(number) => S1dPoint {
-            number,
+        Err(refusal) => S1dPoint {
+            number: refusal.number(),
             colour: 0,
             address: 0,
             bit: 0,
@@ -94,20 +107,20 @@ pub fn point_of(a: PointAnswer) -> S1dPoint
 }
 
 // Drawing's answer.
-pub fn drawn_of(a: Drawn) -> S1dDrawn
+pub fn drawn_of(a: Result<Drawn, Refused>) -> S1dDrawn
     requires { Narrow (drawing_of a).values }
     ensures { result ≡ drawn_of (drawing_of a) }
 {
     match a {
-        Drawn::Accepted(size, v) => S1dDrawn {
+        Ok(drawn) => S1dDrawn {
             number: 0,
             place: 0,
-            length: size,
-            values: screen_values::six_values(v),
+            length: drawn.length,
+            values: screen_values::six_values(drawn.values),
         },
-        Drawn::Refused(number, command) => S1dDrawn {
-            number,
-            place: command,
+        Err(why) => S1dDrawn {
+            number: why.refusal.number(),
+            place: why.place,
             length: 0,
             values: [0; 6],
         },
@@ -125,22 +138,23 @@ pub fn values_in(v: ScreenValues) -> S1dValues
 }
 
 // What is told of an hour.
-pub fn hour_given(a: Hour) -> S1dHour
+#[tactic(auto, unfolding(answers::specs::Answers::hour_given, ring::specs::Kept::telling_of))]
+pub fn hour_given(a: Result<Option<u32>, Refusal>) -> S1dHour
     ensures { result ≡ hour_given (telling_of a) }
 {
     match a {
-        Hour::Sample(height) => S1dHour {
+        Ok(Some(height)) => S1dHour {
             number: 0,
             sampled: 1,
             height,
         },
-        Hour::Blank => S1dHour {
+        Ok(None) => S1dHour {
             number: 0,
             sampled: 0,
             height: 0,
         },
-        Hour::Refused(number) => S1dHour {
-            number,
+        Err(refusal) => S1dHour {
+            number: refusal.number(),
             sampled: 0,
             height: 0,
         },
@@ -148,17 +162,18 @@ pub fn hour_given(a: Hour) -> S1dHour
 }
 
 // The answer of making a strip.
-pub fn strip_given(a: StripAnswer) -> S1dStrip
+#[tactic(auto, unfolding(answers::specs::Answers::strip_given, wear::specs::Strip::stripping_of))]
+pub fn strip_given(a: Result<Made, Refusal>) -> S1dStrip
     ensures { result ≡ strip_given (stripping_of a) }
 {
     match a {
-        StripAnswer::Made(list_length, words_length) => S1dStrip {
+        Ok(made) => S1dStrip {
             number: 0,
-            list_length,
-            words_length,
+            list_length: made.bytes,
+            words_length: made.words,
         },
-        StripAnswer::Refused(number) => S1dStrip {
-            number,
+        Err(refusal) => S1dStrip {
+            number: refusal.number(),
             list_length: 0,
             words_length: 0,
         },
@@ -166,26 +181,41 @@ pub fn strip_given(a: StripAnswer) -> S1dStrip
 }
 
 // Where a digit's glyph stands.
-pub fn glyph_given(a: GlyphAnswer) -> S1dGlyph
+#[tactic(auto, unfolding(answers::specs::Answers::glyph_given, wear::specs::Font::finding_of))]
+pub fn glyph_given(a: Result<Glyph, Refusal>) -> S1dGlyph
     ensures { result ≡ glyph_given (finding_of a) }
 {
     match a {
-        GlyphAnswer::Site(at) => S1dGlyph {
+        Ok(Glyph::Site(at)) => S1dGlyph {
             number: 0,
             site: 1,
             at,
             length: 8,
         },
-        GlyphAnswer::Factory(at) => S1dGlyph {
+        Ok(Glyph::Factory(at)) => S1dGlyph {
             number: 0,
             site: 0,
             at,
             length: 8,
         },
-        GlyphAnswer::Refused(number) => S1dGlyph {
-            number,
+        Err(refusal) => S1dGlyph {
+            number: refusal.number(),
             site: 0,
             at: 0,
+            length: 0,
+        },
+    }
+}
+
+// The answer of turning a list: its turned length, or why it was refused.
+#[tactic(auto, unfolding(form::specs::Turn::turned_of))]
+pub fn turned_of(a: Result<u64, Refusal>) -> Turned
+    ensures { result ≡ turned_of a }
+{
+    match a {
+        Ok(length) => Turned { number: 0, length },
+        Err(why) => Turned {
+            number: why.number(),
             length: 0,
         },
     }

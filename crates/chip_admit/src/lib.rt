@@ -1,18 +1,19 @@
 // The registers once a record is written, and admitting the records of a stream on registers and sizes alone.
 #![tactic(auto)]
 
-ghost use Rattle.std.specs.Prelude.{◌≡◌, false, ◌+◌, ◌-◌, ◌/◌, ◌≤◌, length, [], ◌∷◌};
+ghost use Rattle.std.specs.Prelude.{◌≡◌, false, ◌+◌, ◌-◌, ◌/◌, ◌≤◌, length};
 ghost use Rattle.record.specs.Record.{records_from, records_of};
 ghost use Rattle.chip.specs.Register.{listed, fits, screen_after, blit_after};
 ghost use Rattle.chip.specs.Start.{whole_at, source_fits, startable, span, forward, backward, pattern_within, within};
 ghost use Rattle.chip.specs.Admit.{is_data, starts, refusal, due_of, chip_after};
-ghost use Rattle.chip.specs.Play.{new_chip, run};
+ghost use Rattle.chip.specs.Play.{new_chip, run, running_of};
 ghost use Rattle.chip.specs.Words.{is_word, words_ahead, words_taken};
-ghost use Rattle.record.specs.Checks.{first_of, row};
+ghost use Rattle.refusal.specs.Number.{number_of};
 
 use chip::{Chip, Due, Registers, Run};
 use record::Record;
-use screen::{Origin, ScreenValues};
+use refusal::{Refusal, Refused};
+use screen::ScreenValues;
 
 // Whether a number is a listed register or 10000h.
 fn is_listed(number: u32) -> bool
@@ -164,56 +165,48 @@ pub fn starts_blit(r: Record) -> bool
     (r.number == 0x8000) & (r.value % 2 == 1)
 }
 
-// The number of the first of four checks that fails; 0 where none does.
-fn first_fault(listed: bool, value: bool, reach: bool, order: bool) -> u32
-    ensures { result ≡ first_of (row 20 listed ∷ row 21 value ∷ row 22 reach ∷ row 23 order ∷ []) }
-{
-    if listed {
-        return 20;
-    }
-    if value {
-        return 21;
-    }
-    if reach {
-        return 22;
-    }
-    if order {
-        return 23;
-    }
-    0
-}
-
-// 0, or why a register write is refused, in a memory of so many bytes.
-fn register_refusal(memory: u64, c: Chip, r: Record) -> u32
+// Why a register write is refused, in a memory of so many bytes.
+fn register_refusal(memory: u64, c: Chip, r: Record) -> Result<(), Refusal>
     requires { is_data r ≡ false }
-    ensures { result ≡ refusal memory c r }
+    ensures { number_of result ≡ refusal memory c r }
 {
-    let d = c.due;
-    let value = !in_field(r.number, r.value);
-    let plain = !starts_blit(r);
     // What lies in a field has a register that is listed.
-    if plain & !value {
-        return first_fault(false, false, false, d.any);
+    if !in_field(r.number, r.value) {
+        return Err(if is_listed(r.number) {
+            Refusal::Value
+        } else {
+            Refusal::Register
+        });
     }
-    let listed = !is_listed(r.number);
-    if plain {
-        return first_fault(listed, value, false, d.any);
+    if starts_blit(r) {
+        let next = blit_after(c.blit, r.number, r.value);
+        if !is_startable(next) {
+            return Err(Refusal::Value);
+        }
+        if !is_within(memory, next) {
+            return Err(Refusal::Reach);
+        }
     }
-    let next = blit_after(c.blit, r.number, r.value);
-    let operation = !is_startable(next);
-    let reach = !is_within(memory, next);
-    first_fault(listed, value | operation, reach, d.any)
+    if c.due.any {
+        return Err(Refusal::DataWord);
+    }
+    Ok(())
 }
 
-// 0, or why a record is refused, in a memory of so many bytes.
-pub fn refusal_of(memory: u64, c: Chip, r: Record) -> u32
-    ensures { result ≡ refusal memory c r }
+// Why a record is refused, in a memory of so many bytes.
+pub fn refusal_of(memory: u64, c: Chip, r: Record) -> Result<(), Refusal>
+    ensures { number_of result ≡ refusal memory c r }
 {
-    let d = c.due;
-    if r.number == 0x10000 {
-        return first_fault(false, !(r.value <= 0xFFFF), false, !d.any);
+    if r.number != 0x10000 {
+        return register_refusal(memory, c, r);
     }
-    register_refusal(memory, c, r)
+    if 0xFFFF < r.value {
+        return Err(Refusal::Value);
+    }
+    if !c.due.any {
+        return Err(Refusal::DataWord);
+    }
+    Ok(())
 }
 
 // What is due after a register write: a started write waits for its first word.
@@ -222,7 +215,7 @@ fn due_of(b: Registers, r: Record) -> Due
 {
     Due {
         any: starts_blit(r) & (chip_due::operation_of(b) == 0),
-        ..chip_due::NO_WORD
+        ..Due::default()
     }
 }
 
@@ -241,29 +234,7 @@ pub fn register_after(c: Chip, r: Record) -> Chip
 pub fn new_chip() -> Chip
     ensures { result ≡ new_chip }
 {
-    let origin = Origin {
-        start: 0,
-        offset: 0,
-    };
-    let screen = ScreenValues {
-        main: origin,
-        window: origin,
-        x: 0,
-        y: 0,
-    };
-    let blit = Registers {
-        control: 0,
-        command: 0,
-        source: 0,
-        destination: 0,
-        offset: 0,
-        width: 0,
-        height: 0,
-        background: 0,
-        foreground: 0,
-    };
-    let due = chip_due::NO_WORD;
-    Chip { screen, blit, due }
+    Chip::default()
 }
 
 // Whether a record is a data word in its field.
@@ -303,7 +274,7 @@ fn words_taken(c: Chip, stream: &[u8], i: usize, count: usize) -> usize
 // The first pass: admits the records of a stream in order, from a chip on, on registers and sizes alone. Due data words are taken
 // at once, by their number and field.
 pub fn check(memory: u64, start: Chip, stream: &[u8]) -> Run
-    ensures { result ≡ run memory start 0 (records_of stream.now) }
+    ensures { running_of result ≡ run memory start 0 (records_of stream.now) }
 {
     let count = stream.len() / 8;
     let mut chip = start;
@@ -313,12 +284,11 @@ pub fn check(memory: u64, start: Chip, stream: &[u8]) -> Run
         let n = words_taken(chip, stream, i, count);
         if n == 0 {
             let r = record_code::record_at(stream, i);
-            let number = refusal_of(memory, chip, r);
-            if number != 0 {
+            if let Err(refusal) = refusal_of(memory, chip, r) {
+                let place = i as u64;
                 return Run {
-                    number,
-                    place: i as u64,
                     chip,
+                    refused: Some(Refused { refusal, place }),
                 };
             }
             chip = register_after(chip, r);
@@ -329,8 +299,7 @@ pub fn check(memory: u64, start: Chip, stream: &[u8]) -> Run
         }
     }
     Run {
-        number: 0,
-        place: 0,
         chip,
+        refused: None,
     }
 }

@@ -10,11 +10,10 @@ ghost use Rattle.chip.specs.Admit.{is_data, refusal, effect};
 ghost use Rattle.chip.specs.Play.{run, applied, playing, played, playing_of, answer_of};
 
 use blit::{From, Job, Mix};
-use chip::{Chip, Due, Played, Registers};
+use chip::{Chip, Due, Registers};
 use record::Record;
-
-// Bytes of display memory of the S1D13A05.
-const MEMORY_SIZE: u64 = 262144;
+use refusal::{Refusal, Refused};
+use screen::{MEMORY_SIZE, ScreenValues};
 
 // What source and destination pixel make.
 #[tactic(auto, unfolding(chip::specs::Start::mix_by))]
@@ -125,29 +124,31 @@ pub fn perform_all(start: Chip, stream: &[u8], count: usize, memory: &mut [u8])
     }
 }
 
-// Plays a stream over the memory: the last six screen values, or the first refusal number and its place.
-pub fn play(stream: &[u8], memory: &mut [u8]) -> Played
+// Plays a stream over the memory: the last six screen values, or the first refusal and its place.
+pub fn play(stream: &[u8], memory: &mut [u8]) -> Result<ScreenValues, Refused>
     ensures result_value { playing_of result ≡ playing memory_size stream.now memory.old }
     ensures value { result ≡ answer_of (playing memory_size stream.now memory.old) }
     ensures memory_after { memory.new ≡ played memory_size stream.now memory.old }
 {
     if memory.len() as u64 != MEMORY_SIZE {
-        return Played::Refused(18, 0);
+        return Err(Refusal::MemoryLength.into());
     }
     if stream.len() % 8 != 0 {
-        return Played::Refused(19, 0);
+        return Err(Refusal::StreamLength.into());
     }
     let start = chip_admit::new_chip();
-    let r = chip_admit::check(MEMORY_SIZE, start, stream);
-    if r.number != 0 {
-        return Played::Refused(r.number, r.place);
+    let run = chip_admit::check(MEMORY_SIZE, start, stream);
+    if let Some(refused) = run.refused {
+        return Err(refused);
     }
-    let chip = r.chip;
-    let due = chip.due;
-    if due.any {
-        return Played::Refused(23, stream.len() as u64 / 8);
+    let chip = run.chip;
+    let count = stream.len() / 8;
+    if chip.due.any {
+        return Err(Refused {
+            refusal: Refusal::DataWord,
+            place: count as u64,
+        });
     }
-    perform_all(start, stream, stream.len() / 8, memory);
-    let screen = chip.screen;
-    Played::Accepted(screen)
+    perform_all(start, stream, count, memory);
+    Ok(chip.screen)
 }

@@ -109,13 +109,6 @@ fn words_of(b: Registers) -> u64
     (width_of(b) * bytes_of(b) + 1) / 2
 }
 
-// No word is due.
-pub const NO_WORD: Due = Due {
-    any: false,
-    line: 0,
-    word: 0,
-};
-
 // The next word that is due once one has come.
 fn due_after(b: Registers, d: Due) -> Due
     ensures { result ≡ due_after b d }
@@ -136,7 +129,7 @@ fn due_after(b: Registers, d: Due) -> Due
             word: 0,
         };
     }
-    NO_WORD
+    Due::default()
 }
 
 // Words of the line before the due one. A word past its line is that line's last.
@@ -167,7 +160,7 @@ fn due_after_words(b: Registers, d: Due, n: u64) -> Due
     ensures { result ≡ due_after_words b n d }
 {
     if n == words_due(b, d) {
-        return NO_WORD;
+        return Due::default();
     }
     let words = words_of(b);
     let come = words_before(b, d) + n;

@@ -1,7 +1,7 @@
 // The two passes of compiling: the first decides number, place and length, the second writes the stream.
 #![tactic(auto)]
 
-ghost use Rattle.std.specs.Prelude.{◌≡◌, ◌+◌, ◌*◌, ◌≤◌, true, length};
+ghost use Rattle.std.specs.Prelude.{◌≡◌, ◌+◌, ◌*◌, ◌≤◌, IfOk, true, length};
 ghost use Rattle.std.proofs.lemmas.List.Edits.{sets};
 ghost use Rattle.record.specs.Checks.{first_of};
 ghost use Rattle.record.specs.Lists.{parts_of};
@@ -10,9 +10,10 @@ ghost use Rattle.screen.specs.Screen.{memory_size};
 ghost use Rattle.command.specs.Task.{is_form, list_rows, first_refusal};
 ghost use Rattle.compiler.specs.Stream.{records_with, screen_records, data_records, command_records, draw_records};
 ghost use Rattle.compiler.specs.Pass.{pass_of};
+ghost use Rattle.refusal.specs.Number.{number_of};
 
-use command::{Command, CommandAnswer};
-use compiler::Pass;
+use command::Command;
+use refusal::{Refusal, Refused};
 use screen::Screen;
 
 const SCREEN_REGISTERS: [u32; 6] = [0x40, 0x44, 0x50, 0x54, 0x58, 0x5C];
@@ -22,46 +23,35 @@ const BLIT_REGISTERS: [u32; 9] = [
 ];
 
 // Refusals 10 and 11.
-pub fn list_fault(form: u32, s: Screen, list: &[u8]) -> u32
-    ensures { result ≡ first_of (list_rows form s list.now) }
+pub fn check_list(form: u32, s: Screen, list: &[u8]) -> Result<(), Refusal>
+    ensures { number_of result ≡ first_of (list_rows form s list.now) }
 {
-    if !command_code::is_list(form, list) {
-        return 10;
-    }
-    if (0 < list.len()) & (s.depth < 8) {
-        return 11;
-    }
-    0
+    record_code::first_of(&[
+        (Refusal::ListLength, !command_code::is_list(form, list)),
+        (Refusal::ListDepth, (0 < list.len()) & (s.depth < 8)),
+    ])
 }
 
-// The first pass: each command is lent on as a part of the list.
-pub fn first_pass(form: u32, s: Screen, list: &[u8], left: u64) -> Pass
+// The first pass: the host words that the commands take, or the first refusal of one. Each command is lent on as a part of the list.
+pub fn first_pass(form: u32, s: Screen, list: &[u8], left: u64) -> Result<u64, Refused>
     requires form_value { is_form form ≡ true }
     requires list_len_bound { length list.now ≤ 64 * form }
     ensures value { result ≡ pass_of memory_size s left (parts_of form list.now) }
-    ensures used_bound { result.used ≤ 64 * 4294967295 }
+    ensures used_bound { IfOk result (λ used. used ≤ 64 * 4294967295) }
 {
     let mut used: u64 = 0;
     for (i, part) in list.chunks_exact(form as usize).enumerate() {
-        let answer = command_code::read_command(s, left - used, part);
-        match answer {
-            CommandAnswer::Refused(n) => {
-                return Pass {
-                    number: n,
+        match command_code::read_command(s, left - used, part) {
+            Ok(c) => used += command_code::words_taken(s, c) as u64,
+            Err(refusal) => {
+                return Err(Refused {
+                    refusal,
                     place: i as u64,
-                    used: 0,
-                };
-            }
-            CommandAnswer::Accepted(c) => {
-                used += command_code::words_taken(s, c) as u64;
+                });
             }
         }
     }
-    Pass {
-        number: 0,
-        place: 0,
-        used,
-    }
+    Ok(used)
 }
 
 // Stores records of register numbers and their values from `at` on.

@@ -5,9 +5,9 @@ ghost use Rattle.std.specs.Prelude.{◌≡◌, true, ◌&&◌, ◌+◌, ◌*◌,
 ghost use Rattle.std.proofs.lemmas.List.Edits.{sets};
 ghost use Rattle.record.specs.Lists.{parts_of};
 ghost use Rattle.command.specs.Task.{short_form, long_form, is_form};
-ghost use Rattle.form.specs.Turn.{record_in, turned_list, any_stays_long, turning, turned_into};
+ghost use Rattle.form.specs.Turn.{record_in, turned_list, any_stays_long, turning, turned_of, turned_into};
 
-use form::Turned;
+use refusal::Refusal;
 
 // Whether a record of a long list has no short one: by its operation, or by a byte past 31.
 fn any_stays_long(list: &[u8]) -> bool
@@ -65,47 +65,40 @@ fn put_list(from: u32, to: u32, list: &[u8], target: &mut [u8])
     }
 }
 
-// The answer of a refusal.
-fn refused(number: u32) -> Turned
-    ensures { result ≡ record { number = number; length = 0 } }
-{
-    Turned { number, length: 0 }
-}
-
-// Turns a list in form `from` into form `to`, or says why not.
-fn turn(from: u32, to: u32, list: &[u8], target: &mut [u8]) -> Turned
+// Turns a list in form `from` into form `to`; answers the turned list's length.
+fn turn(from: u32, to: u32, list: &[u8], target: &mut [u8]) -> Result<u64, Refusal>
     requires from_value { is_form from ≡ true }
     requires to_value { is_form to ≡ true }
-    ensures value { result ≡ turning from to list.now (length target.old) }
+    ensures value { turned_of result ≡ turning from to list.now (length target.old) }
     ensures target_after { target.new ≡ turned_into from to list.now target.old }
 {
     if !command_code::is_list(from, list) {
-        return refused(10);
+        return Err(Refusal::ListLength);
     }
     let length = list.len() as u64 / from as u64 * to as u64;
     let short = (target.len() as u64) < length;
     let stays = stays_long(from, to, list);
     if short {
-        return refused(17);
+        return Err(Refusal::Room);
     }
     if stays {
-        return refused(28);
+        return Err(Refusal::LongOnly);
     }
     put_list(from, to, list, target);
-    Turned { number: 0, length }
+    Ok(length)
 }
 
-// Turns a list of 32-byte records into one of 48-byte records.
-pub fn to_long(list: &[u8], target: &mut [u8]) -> Turned
-    ensures value { result ≡ turning short_form long_form list.now (length target.old) }
+// Turns a list of 32-byte records into one of 48-byte records; answers its length.
+pub fn to_long(list: &[u8], target: &mut [u8]) -> Result<u64, Refusal>
+    ensures value { turned_of result ≡ turning short_form long_form list.now (length target.old) }
     ensures target_after { target.new ≡ turned_into short_form long_form list.now target.old }
 {
     turn(32, 48, list, target)
 }
 
-// Turns a list of 48-byte records back into one of 32-byte records.
-pub fn to_short(list: &[u8], target: &mut [u8]) -> Turned
-    ensures value { result ≡ turning long_form short_form list.now (length target.old) }
+// Turns a list of 48-byte records back into one of 32-byte records; answers its length.
+pub fn to_short(list: &[u8], target: &mut [u8]) -> Result<u64, Refusal>
+    ensures value { turned_of result ≡ turning long_form short_form list.now (length target.old) }
     ensures target_after { target.new ≡ turned_into long_form short_form list.now target.old }
 {
     turn(48, 32, list, target)

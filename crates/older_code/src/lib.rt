@@ -11,15 +11,15 @@ ghost use Rattle.compiler.specs.Compile.{compiling_of, answer_of, numbers_of};
 ghost use Rattle.compiler.specs.Part.{RefusedPart};
 ghost use Rattle.reader.specs.Read.{reading, reading_of, answer_of as point_of};
 ghost use Rattle.reader.specs.Line.{line_number, line_after};
+ghost use Rattle.refusal.specs.Number.{number_of};
 ghost use Rattle.older.specs.Bytes.{older_memory, older_bytes, older_values};
 ghost use Rattle.older.specs.Compile.{older_records, lent_rows, older_compiling, older_buffer};
 
 use compiler::Compiled;
-use reader::{Display, PointAnswer};
-use screen::{Origin, Screen, ScreenAnswer, ScreenValues};
-
-// Bytes of the display memory.
-const MEMORY: u64 = 81920;
+use older::OLDER_MEMORY;
+use reader::{Display, Point};
+use refusal::{Refusal, Refused};
+use screen::{Origin, Screen, ScreenValues};
 
 // Main start and offset; the window's start, offset, X start, Y start, X end and Y end.
 const REGISTERS: [u32; 18] = [
@@ -94,16 +94,22 @@ fn put_screen(s: Screen, buffer: &mut [u8])
     compiler_pass::put_records(buffer, 0, &REGISTERS, &values);
 }
 
-// The numbers of the checks of what is lent besides the screen record, in their order.
-const LENT_CHECKS: [u32; 4] = [10, 11, 16, 17];
-
-// The first of these that fails; 0 for none.
-fn lent_fault(form: u32, screen: &[u8], list: &[u8], words: &[u16], stream: &[u8]) -> u32
-    ensures { result ≡ first_of (lent_rows (task form screen.now list.now words.now) (length stream.now)) }
+// The first of 10, 11, 16 and 17 that what is lent besides the screen record gives.
+fn check_lent(
+    form: u32,
+    screen: &[u8],
+    list: &[u8],
+    words: &[u16],
+    stream: &[u8],
+) -> Result<(), Refusal>
+    ensures { number_of result ≡ first_of (lent_rows (task form screen.now list.now words.now) (length stream.now)) }
 {
-    let whole = command_code::is_list(form, list);
-    let fails = [!whole, 0 < list.len(), 0 < words.len(), stream.len() < 144];
-    record_code::first_of(&LENT_CHECKS, &fails)
+    record_code::first_of(&[
+        (Refusal::ListLength, !command_code::is_list(form, list)),
+        (Refusal::ListDepth, 0 < list.len()),
+        (Refusal::WordsLeft, 0 < words.len()),
+        (Refusal::Room, stream.len() < 144),
+    ])
 }
 
 // Compiles: the stream's length with the screen's depth, rotation and flag, or a refusal. The stream buffer then holds
@@ -114,25 +120,20 @@ pub fn compile_into(
     list: &[u8],
     words: &[u16],
     stream: &mut [u8],
-) -> Compiled
+) -> Result<Compiled, Refused>
     ensures result_value { compiling_of result ≡ older_compiling (task form screen.now list.now words.now) (length stream.old) }
     ensures value { result ≡ answer_of (older_compiling (task form screen.now list.now words.now) (length stream.old)) }
     ensures stream_after { stream.new ≡ older_buffer (task form screen.now list.now words.now) stream.old }
 {
-    let answer = screen_code::read_screen_in(MEMORY, screen);
-    match answer {
-        ScreenAnswer::Refused(n) => {
-            return Compiled::Refused(n, 0);
-        }
-        ScreenAnswer::Accepted(s) => {
-            let n = lent_fault(form, screen, list, words, stream);
-            if n != 0 {
-                return Compiled::Refused(n, 0);
-            }
-            put_screen(s, stream);
-            return Compiled::Accepted(144, s.depth as u32, s.rotation as u32, s.flag as u32);
-        }
-    }
+    let s = screen_code::read_screen_in(OLDER_MEMORY, screen)?;
+    check_lent(form, screen, list, words, stream)?;
+    put_screen(s, stream);
+    Ok(Compiled {
+        length: 144,
+        depth: s.depth as u32,
+        rotation: s.rotation as u32,
+        flag: s.flag as u32,
+    })
 }
 
 // Compiles, stores the answer's numbers, and hands back the refused command's part of the list: none is, so it is empty, at the list's
@@ -154,18 +155,30 @@ pub fn compile<'a>(
     compiler_code::refused_part(form, list, c)
 }
 
-// What panel point (p, q) shows, and where that stands in the S1D13706's memory, or the first refusal number.
-pub fn read_point(d: Display, values: ScreenValues, p: u32, q: u32, memory: &[u8]) -> PointAnswer
+// What panel point (p, q) shows, and where that stands in the S1D13706's memory, or the first refusal.
+pub fn read_point(
+    d: Display,
+    values: ScreenValues,
+    p: u32,
+    q: u32,
+    memory: &[u8],
+) -> Result<Point, Refusal>
     ensures result_value { reading_of result ≡ reading older_memory d values p q memory.now }
     ensures value { result ≡ point_of (reading older_memory d values p q memory.now) }
 {
-    reader_code::read_point_in(MEMORY, d, values, p, q, memory)
+    reader_code::read_point_in(OLDER_MEMORY, d, values, p, q, memory)
 }
 
-// What panel line q shows: a colour for each column of the line, and 0; or the first refusal number, and the line is as it was.
-pub fn read_line(d: Display, values: ScreenValues, q: u32, memory: &[u8], line: &mut [u16]) -> u32
-    ensures value { result ≡ line_number older_memory d values q memory.now (length line.old) }
+// What panel line q shows: a colour for each column of the line; or the first refusal, and the line is as it was.
+pub fn read_line(
+    d: Display,
+    values: ScreenValues,
+    q: u32,
+    memory: &[u8],
+    line: &mut [u16],
+) -> Result<(), Refusal>
+    ensures value { number_of result ≡ line_number older_memory d values q memory.now (length line.old) }
     ensures line_after { line.new ≡ line_after older_memory d values q memory.now line.old }
 {
-    reader_line::read_line_in(MEMORY, d, values, q, memory, line)
+    reader_line::read_line_in(OLDER_MEMORY, d, values, q, memory, line)
 }

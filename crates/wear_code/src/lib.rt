@@ -7,34 +7,28 @@ ghost use Rattle.record.specs.Checks.{first_of};
 ghost use Rattle.ring.specs.Kept.{ring_in};
 ghost use Rattle.wear.specs.Strip.{strip_with, strip_for, ask_rows, stripping, list_after, words_after, stripping_of, answer_of};
 ghost use Rattle.wear.specs.Limits.{Drawable};
+ghost use Rattle.refusal.specs.Number.{number_of};
 
+use refusal::Refusal;
 use ring::Ring;
-use wear::{Ask, StripAnswer};
+use wear::{Ask, Made};
 
-// 0, or the first of the checks that ask for no command; by the factory font's bytes.
-fn fault_of(a: Ask, factory: u64) -> u32
-    ensures { result ≡ first_of (ask_rows a factory) }
+// The first refusal of the checks that ask for no command; by the factory font's bytes.
+fn check_ask(a: Ask, factory: u64) -> Result<(), Refusal>
+    ensures { number_of result ≡ first_of (ask_rows a factory) }
 {
-    let d = a.depth;
-    if !pixel_code::is_depth(d) {
-        return 2;
-    }
-    if d < 8 {
-        return 11;
-    }
-    if (d == 8) & ((255 < a.bar) | (255 < a.background)) {
-        return 12;
-    }
-    if !((1 <= a.hours) & (a.hours <= 24)) {
-        return 27;
-    }
-    if !((1 <= a.column) & (a.column <= 16)) {
-        return 27;
-    }
-    if factory < 80 {
-        return 27;
-    }
-    0
+    let narrow = a.depth == 8;
+    record_code::first_of(&[
+        (Refusal::Depth, !pixel_code::is_depth(a.depth)),
+        (Refusal::ListDepth, a.depth < 8),
+        (
+            Refusal::CommandForm,
+            narrow & ((255 < a.bar) | (255 < a.background)),
+        ),
+        (Refusal::WearRange, !((1 <= a.hours) & (a.hours <= 24))),
+        (Refusal::WearRange, !((1 <= a.column) & (a.column <= 16))),
+        (Refusal::WearRange, factory < 80),
+    ])
 }
 
 // The strip of heights and digits, for an ask that has no fault.
@@ -46,7 +40,7 @@ fn make_strip<'a>(
     factory: &'a [u8],
     list: &mut [u8],
     words: &mut [u16],
-) -> StripAnswer
+) -> Result<Made, Refusal>
     requires factory_value { first_of (ask_rows a (length factory.now)) ≡ 0 }
     requires drawable { Drawable heights.now }
     requires all_below { AllBelow 10 digits.now }
@@ -60,15 +54,18 @@ fn make_strip<'a>(
     let count = digits.len() * wear_glyph::words_per_glyph(a);
     let short = (list.len() < bytes) | (words.len() < count);
     if !reach {
-        return StripAnswer::Refused(27);
+        return Err(Refusal::WearRange);
     }
     if short {
-        return StripAnswer::Refused(17);
+        return Err(Refusal::Room);
     }
     let at = wear_list::put_columns(list, a, heights);
     wear_list::put_writes(list, at, a, digits);
     wear_glyph::put_digits(words, a, site, factory, digits);
-    StripAnswer::Made(bytes as u64, count as u64)
+    Ok(Made {
+        bytes: bytes as u64,
+        words: count as u64,
+    })
 }
 
 // The strip of the last hours of a ring, as a list and host words.
@@ -79,16 +76,13 @@ pub fn wear_strip<'a>(
     factory: &'a [u8],
     list: &mut [u8],
     words: &mut [u16],
-) -> StripAnswer
+) -> Result<Made, Refusal>
     ensures result_value { stripping_of result ≡ stripping (strip_for ring a site.now factory.now) (length list.old) (length words.old) }
     ensures value { result ≡ answer_of (stripping (strip_for ring a site.now factory.now) (length list.old) (length words.old)) }
     ensures list_after { list.new ≡ list_after (strip_for ring a site.now factory.now) list.old words.old }
     ensures words_after { words.new ≡ words_after (strip_for ring a site.now factory.now) list.old words.old }
 {
-    let fault = fault_of(a, factory.len() as u64);
-    if fault != 0 {
-        return StripAnswer::Refused(fault);
-    }
+    check_ask(a, factory.len() as u64)?;
     let heights = ring_code::heights_of(ring, a.hours);
     let d = wear_glyph::digits_in(ring.any, ring.newest);
     let n = a.hours as usize;
@@ -106,16 +100,13 @@ pub fn strip_in<'a>(
     factory: &'a [u8],
     list: &mut [u8],
     words: &mut [u16],
-) -> StripAnswer
+) -> Result<Made, Refusal>
     ensures result_value { stripping_of result ≡ stripping (strip_for (ring_in cells.now) a site.now factory.now) (length list.old) (length words.old) }
     ensures value { result ≡ answer_of (stripping (strip_for (ring_in cells.now) a site.now factory.now) (length list.old) (length words.old)) }
     ensures list_after { list.new ≡ list_after (strip_for (ring_in cells.now) a site.now factory.now) list.old words.old }
     ensures words_after { words.new ≡ words_after (strip_for (ring_in cells.now) a site.now factory.now) list.old words.old }
 {
-    let wrong = fault_of(a, factory.len() as u64);
-    if wrong != 0 {
-        return StripAnswer::Refused(wrong);
-    }
+    check_ask(a, factory.len() as u64)?;
     let told = ring_code::heights_in(cells, a.hours);
     let d = wear_glyph::digits_in(cells[0], cells[1]);
     let n = a.hours as usize;

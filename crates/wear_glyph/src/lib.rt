@@ -9,20 +9,21 @@ ghost use Rattle.wear.specs.Font.{finding, finding_of, GlyphPart, digits_of};
 ghost use Rattle.wear.specs.Strip.{digits_in, glyph_words, digit_words};
 ghost use Rattle.wear.specs.Limits.{Checked};
 
-use wear::{Ask, Digits, GlyphAnswer};
+use refusal::Refusal;
+use wear::{Ask, Digits, Glyph};
 
 // Which font has a digit's glyph, and where; by the fonts' bytes.
-pub fn find_glyph(site: u64, factory: u64, digit: u32) -> GlyphAnswer
+pub fn find_glyph(site: u64, factory: u64, digit: u32) -> Result<Glyph, Refusal>
     ensures { finding_of result ≡ finding site factory digit }
 {
     if (factory < 80) | (9 < digit) {
-        return GlyphAnswer::Refused(27);
+        return Err(Refusal::WearRange);
     }
     let at = 8 * digit as u64;
     if at + 8 <= site {
-        return GlyphAnswer::Site(at);
+        return Ok(Glyph::Site(at));
     }
-    GlyphAnswer::Factory(at)
+    Ok(Glyph::Factory(at))
 }
 
 // A digit's glyph, lent from the site font or, failing that, the factory font; else an empty part, at the factory font's start.
@@ -31,15 +32,15 @@ pub fn glyph<'a>(site: &'a [u8], factory: &'a [u8], digit: u32) -> &'a [u8]
 {
     let found = find_glyph(site.len() as u64, factory.len() as u64, digit);
     match found {
-        GlyphAnswer::Site(at) => {
+        Ok(Glyph::Site(at)) => {
             let from = at as usize;
             return &site[from..from + 8];
         }
-        GlyphAnswer::Factory(at) => {
+        Ok(Glyph::Factory(at)) => {
             let from = at as usize;
             return &factory[from..from + 8];
         }
-        GlyphAnswer::Refused(_) => {
+        Err(_) => {
             return &factory[0..0];
         }
     }

@@ -2,10 +2,10 @@ use Rattle.answers.proofs.Answers.{played_narrow, played_accepted, played_refuse
 use Rattle.answers_code.proofs.played_of.Goals as goal
 
 pub six_values-requires : goal.six_values-requires
-six_values-requires c = played_narrow _ _ c.in-Accepted.is c.requires
+six_values-requires c = played_narrow _ _ c.in-Ok.is c.requires
 
-pub returns-in-Accepted : goal.returns-in-Accepted
-returns-in-Accepted c = played_accepted _ _ _ c.in-Accepted.is c.six_values.ensures
+pub returns-in-Ok : goal.returns-in-Ok
+returns-in-Ok c = played_accepted _ _ _ c.in-Ok.is c.six_values.ensures
 
-pub returns-in-Refused : goal.returns-in-Refused
-returns-in-Refused c = played_refused _ _ _ c.in-Refused.is
+pub returns-in-Err : goal.returns-in-Err
+returns-in-Err c = rw c.number.ensures (played_refused _ _ c.in-Err.is)

@@ -6,7 +6,9 @@ use lib.ListN.{length}
 use Rattle.record.specs.Record.{records_from, records_of}
 use Rattle.record.proofs.Records.{records_end}
 use Rattle.chip.specs.Admit.{is_data, refusal, chip_after}
-use Rattle.chip.specs.Play.{run}
+use Rattle.refusal.specs.Number.{number_of, number_at, place_at}
+use Rattle.refusal.proofs.Numbers.{number_positive}
+use Rattle.chip.specs.Play.{run, running_of}
 use Rattle.chip.specs.declared.Chip.{Chip}
 use Rattle.record.specs.declared.Record.{Record}
 use Rattle.chip.proofs.Runs.{run_end, run_next, run_last}
@@ -23,28 +25,32 @@ unfolding records_of
 loop-i-init c = let s = c.args.stream.now in
     (omega arith, λ t. run c.args.memory c.args.start 0 (records_from s 0 (sym (sub-zero (length s / 8)) t)))
 
-pub returns-then-number-ne0 : goal.returns-then-number-ne0
-returns-then-number-ne0 c = let a = c.args in
+pub returns-in-Err : goal.returns-in-Err
+unfolding number_of number_at place_at running_of
+returns-in-Err c = let a = c.args in
     let l = c.loop-i in
     let s = a.stream.now in
-    let e = is a.memory l.chip c.refusal_of-number.ensures c.record_at-r.ensures in
-    sym (l.invariant.1 ∙ run_last a.memory l.chip s l.i (length s / 8) (omega arith) (λ q. c.if-number-ne0.true (e ∙ q))
+    let e = is a.memory l.chip c.in-Err.ensures c.record_at-r.ensures in
+    let p = number_positive c.in-Err.refusal in
+    sym (l.invariant.1 ∙ run_last a.memory l.chip s l.i (length s / 8) (omega arith) (λ q. omega (arith, p, e, q))
     ∙ (λ t. record { number = sym e t; place = l.i; chip = l.chip }))
 
 pub register_after-chip-requires : goal.register_after-chip-requires
+unfolding number_of
 register_after-chip-requires c = let a = c.args in
     let l = c.loop-i in
     let s = a.stream.now in
     ap is_data c.record_at-r.ensures
-    ∙ none_taken a.memory l.chip s l.i (length s / 8) (omega arith) (sym c.words_taken-n.ensures ∙ c.if-n-eq0.true) (sym (is a.memory l.chip c.refusal_of-number.ensures c.record_at-r.ensures) ∙ c.if-number-ne0.false)
+    ∙ none_taken a.memory l.chip s l.i (length s / 8) (omega arith) (sym c.words_taken-n.ensures ∙ c.if-n-eq0.true) (sym (is a.memory l.chip c.in_default.ensures c.record_at-r.ensures))
 
 pub loop-i-preserved-then-n-eq0 : goal.loop-i-preserved-then-n-eq0
+unfolding number_of
 loop-i-preserved-then-n-eq0 c = let a = c.args in
     let l = c.loop-i in
     let s = a.stream.now in
     let n : ℕ = length s / 8 in (
       omega arith,
-      l.invariant.1 ∙ run_next a.memory l.chip s l.i n (omega arith) (sym (is a.memory l.chip c.refusal_of-number.ensures c.record_at-r.ensures) ∙ c.if-number-ne0.false)
+      l.invariant.1 ∙ run_next a.memory l.chip s l.i n (omega arith) (sym (is a.memory l.chip c.in_default.ensures c.record_at-r.ensures))
           ∙ ap (λ (x : Chip). run a.memory x (l.i + 1) (records_from s (l.i + 1) (n - (l.i + 1)))) (sym (c.register_after-chip.ensures ∙ ap (chip_after l.chip) c.record_at-r.ensures)),
     )
 
@@ -78,6 +84,7 @@ loop-i-preserved c = let a = c.args in
     )
 
 pub returns : goal.returns
+unfolding number_at place_at running_of
 returns c = let a = c.args in
     let l = c.loop-i in
     let s = a.stream.now in

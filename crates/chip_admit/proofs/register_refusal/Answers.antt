@@ -1,25 +1,56 @@
-use mathlib.Core.Path.{sym, ◌∙◌}
-use mathlib.Core.Bool.{not}
-use borrow.Author.Tests.{not-true, not-false}
-use Rattle.record.proofs.Choice.{and_left, and_right}
-use Rattle.chip.proofs.Admits.{plain_refusal, field_refusal, start_refusal}
+use mathlib.Core.Path.{sym, ap, ◌∙◌}
+use mathlib.Core.Bool.{Bool, cond}
+use Rattle.refusal.specs.Number.{number, number_of}
+use Rattle.chip.specs.Start.{startable, within}
+use Rattle.chip_admit.proofs.Refusals.{unlisted, no_field, plain, not_startable, not_within, startable_within}
+use Rattle.chip_admit.proofs.register_refusal.Goals.{then-starts_blit+else-not-is_startable+else-not-is_within, else-starts_blit}
 use Rattle.chip_admit.proofs.register_refusal.Goals as goal
 
-pub returns-then-plain-value : goal.returns-then-plain-value
-returns-then-plain-value c = let a = c.args in
-    let s = c.starts_blit-plain in
-    let f = c.in_field-value in
-    let t = c.if-plain-value.true in
-    c.first_fault.ensures
-    ∙ field_refusal a.memory a.c a.r c.requires (sym s.ensures ∙ not-true _ (and_left (not s.result) (not (not f.result)) t))
-    (sym f.ensures ∙ not-false _ (not-true _ (and_right (not s.result) (not (not f.result)) t)))
+pub returns-then-is_listed : goal.returns-then-is_listed
+unfolding number_of number
+returns-then-is_listed c = let a = c.args in
+    no_field a.memory a.c a.r (sym c.is_listed.ensures ∙ c.if-is_listed.true) (sym c.in_field.ensures ∙ c.if-not-in_field.true)
 
-pub returns-then-plain : goal.returns-then-plain
-returns-then-plain c = let a = c.args in
-    simp (c.first_fault-then-plain.ensures, c.in_field-value.ensures, c.is_listed-listed.ensures)
-    (plain_refusal a.memory a.c a.r c.requires (sym c.starts_blit-plain.ensures ∙ c.if-plain.true))
+pub returns-else-is_listed : goal.returns-else-is_listed
+unfolding number_of number
+returns-else-is_listed c = let a = c.args in unlisted a.memory a.c a.r (sym c.is_listed.ensures ∙ c.if-is_listed.false)
+
+pub returns-then-not-is_startable : goal.returns-then-not-is_startable
+unfolding number_of number
+returns-then-not-is_startable c = let a = c.args in
+    not_startable a.memory a.c a.r c.requires (sym c.in_field.ensures ∙ c.if-not-in_field.false) (sym c.starts_blit.ensures ∙ c.if-starts_blit.true)
+    (sym (c.is_startable.ensures ∙ ap startable c.blit_after-next.ensures) ∙ c.if-not-is_startable.true)
+
+pub returns-then-not-is_within : goal.returns-then-not-is_within
+unfolding number_of number
+returns-then-not-is_within c = let a = c.args in
+    not_within a.memory a.c a.r c.requires (sym c.in_field.ensures ∙ c.if-not-in_field.false) (sym c.starts_blit.ensures ∙ c.if-starts_blit.true)
+    (sym (c.is_startable.ensures ∙ ap startable c.blit_after-next.ensures) ∙ c.if-not-is_startable.false)
+    (sym (c.is_within.ensures ∙ ap (within a.memory) c.blit_after-next.ensures) ∙ c.if-not-is_within.true)
+
+-- past the checks of a start only the order counts
+pub returns-then-c : goal.returns-then-c
+unfolding number_of number
+returns-then-c c = let a = c.args in
+    let f = sym c.in_field.ensures ∙ c.if-not-in_field.false in
+    ap (λ (t : Bool). cond t 23 0) (sym c.if-c.true)
+    ∙ elim c.if-starts_blit.branch [
+      | then-starts_blit+else-not-is_startable+else-not-is_within w ↦
+          startable_within a.memory a.c a.r c.requires f (sym c.starts_blit.ensures ∙ w.if-starts_blit.true)
+          (sym (w.is_startable.ensures ∙ ap startable w.blit_after-next.ensures) ∙ w.if-not-is_startable.false)
+          (sym (w.is_within.ensures ∙ ap (within a.memory) w.blit_after-next.ensures) ∙ w.if-not-is_within.false)
+      | else-starts_blit w ↦ plain a.memory a.c a.r c.requires f (sym c.starts_blit.ensures ∙ w.if-starts_blit.false)
+    ]
 
 pub returns : goal.returns
+unfolding number_of number
 returns c = let a = c.args in
-    simp (c.first_fault-2.ensures, c.is_within-reach.ensures, c.is_startable-operation.ensures, c.blit_after-next.ensures, c.in_field-value.ensures, c.is_listed-listed.ensures)
-    (start_refusal a.memory a.c a.r c.requires (sym c.starts_blit-plain.ensures ∙ c.if-plain.false))
+    let f = sym c.in_field.ensures ∙ c.if-not-in_field.false in
+    ap (λ (t : Bool). cond t 23 0) (sym c.if-c.false)
+    ∙ elim c.if-starts_blit.branch [
+      | then-starts_blit+else-not-is_startable+else-not-is_within w ↦
+          startable_within a.memory a.c a.r c.requires f (sym c.starts_blit.ensures ∙ w.if-starts_blit.true)
+          (sym (w.is_startable.ensures ∙ ap startable w.blit_after-next.ensures) ∙ w.if-not-is_startable.false)
+          (sym (w.is_within.ensures ∙ ap (within a.memory) w.blit_after-next.ensures) ∙ w.if-not-is_within.false)
+      | else-starts_blit w ↦ plain a.memory a.c a.r c.requires f (sym c.starts_blit.ensures ∙ w.if-starts_blit.false)
+    ]

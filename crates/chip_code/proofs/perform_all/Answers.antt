@@ -13,7 +13,7 @@ use Rattle.chip.specs.Words.{due_in_line}
 use Rattle.chip.specs.declared.Chip.{Chip}
 use Rattle.chip.specs.declared.Registers.{Registers}
 use Rattle.chip.specs.declared.Due.{Due}
-use Rattle.chip.specs.declared.Run.{Run}
+use Rattle.chip.specs.Play.{Running}
 use Rattle.chip.proofs.Dues.{due_at}
 use Rattle.chip.proofs.Runs.{applied_end, applied_next, admitted_next}
 use Rattle.chip.proofs.Words.{Taken, admitted_data, admitted_run, run_words, applied_words}
@@ -67,7 +67,7 @@ loop-i-preserved-then-r-eq65536 c = let a = c.args in
       l.invariant.1 ∙ applied_words l.chip s l.i n k l.memory w few
           ∙ (λ t. applied (sym c.line_after-chip.ensures t) (records_from s (l.i + k) (n - (l.i + k))) (sym c.write_line.ensures t)),
       ap (λ (x : Chip). (run memory_size x (l.i + k) (records_from s (l.i + k) (n - (l.i + k)))).number) c.line_after-chip.ensures
-          ∙ ap (λ (x : Run). x.number) (sym (run_words memory_size l.chip s l.i n k w)) ∙ l.invariant.2,
+          ∙ ap (λ (x : Running). x.number) (sym (run_words memory_size l.chip s l.i n k w)) ∙ l.invariant.2,
       c.write_line.auto.memory ∙ l.invariant.3,
     )
 

@@ -6,6 +6,7 @@ use Rattle.chip.specs.Start.{height_of}
 use Rattle.chip.specs.declared.Registers.{Registers}
 use Rattle.chip.specs.declared.Due.{Due}
 use Rattle.chip.proofs.Dues.{due_at, none_left, after_words, few_lines}
+use Rattle.chip_due.proofs.Idle.{none_due}
 use Rattle.chip_due.proofs.due_after_words.Goals as goal
 
 -- the lines that have come are no more than were left
@@ -16,7 +17,8 @@ lines b n d before words e p l = subst (λ (x : ℕ). x ≤ height_of b - (d.lin
 
 pub returns-then-n-words_due : goal.returns-then-n-words_due
 returns-then-n-words_due c = let a = c.args in
-    sym (ap (λ (n : ℕ). due_after_words a.b n a.d) (c.if-n-words_due.true ∙ c.words_due.ensures.0) ∙ none_left a.b a.d)
+    none_due c.default.result c.default.ensures
+    ∙ sym (ap (λ (n : ℕ). due_after_words a.b n a.d) (c.if-n-words_due.true ∙ c.words_due.ensures.0) ∙ none_left a.b a.d)
 
 pub overflow_cast-result : goal.overflow_cast-result
 overflow_cast-result c = omega (arith, lines c.args.b c.args.n c.args.d _ _ c.words_before.ensures c.words_of-words.ensures.0 (omega arith))

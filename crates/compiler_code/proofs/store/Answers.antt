@@ -1,12 +1,18 @@
-use mathlib.Core.Path.{ap, sym}
+use mathlib.Core.Path.{ap, sym, ◌∙◌}
+use mathlib.Core.List.{[], ◌∷◌}
+use Prim.Native.Nat.{ℕ}
+use Rattle.std.specs.Prelude.{Result}
+use Rattle.refusal.specs.declared.Refused.{Refused}
 use Rattle.compiler.specs.Compile.{compiling_of, numbers_of}
 use Rattle.compiler.specs.declared.Compiled.{Compiled}
 use Rattle.compiler_code.proofs.store.Goals as goal
 
-pub returns-in-Accepted : goal.returns-in-Accepted
+pub returns-in-Ok : goal.returns-in-Ok
 unfolding numbers_of compiling_of
-returns-in-Accepted c = ap (λ (d : Compiled). numbers_of (compiling_of d)) (sym c.in-Accepted.is)
+returns-in-Ok c = ap (λ (d : Result Compiled Refused). numbers_of (compiling_of d)) (sym c.in-Ok.is)
 
-pub returns-in-Refused : goal.returns-in-Refused
+pub returns-in-Err : goal.returns-in-Err
 unfolding numbers_of compiling_of
-returns-in-Refused c = ap (λ (d : Compiled). numbers_of (compiling_of d)) (sym c.in-Refused.is)
+returns-in-Err c =
+    ap (λ (n : ℕ). n ∷ c.in-Err.r.place ∷ 0 ∷ 0 ∷ 0 ∷ 0 ∷ []) c.number.ensures
+    ∙ ap (λ (d : Result Compiled Refused). numbers_of (compiling_of d)) (sym c.in-Err.is)

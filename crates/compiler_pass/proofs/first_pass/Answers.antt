@@ -17,26 +17,24 @@ use Rattle.compiler_pass.proofs.first_pass.Goals as goal
 pub loop-i-init : goal.loop-i-init
 loop-i-init c = record { going = going_start _ _ _ _ _; count = cc; size = cc; rest = rw zero-mul (cc) }
 
-pub read_command-answer-requires : goal.read_command-answer-requires
-read_command-answer-requires c = let a = c.args in
+pub read_command-requires : goal.read_command-requires
+read_command-requires c = let a = c.args in
     let l = c.loop-i in
     let i = length l.yielded in
     let some : 0 < a.form = omega (arith, form_least a.form c.requires.form_value) in
     let step = c.in-Some.ensures.steps.0 in
     ap is_form (step.1.1 ∙ l.invariant.size) ∙ c.requires.form_value
 
-pub returns-in-Refused-clause-value : goal.returns-in-Refused-clause-value
-returns-in-Refused-clause-value c = let a = c.args in
+pub returns-in-Err-clause-value : goal.returns-in-Err-clause-value
+returns-in-Err-clause-value c = let a = c.args in
     let l = c.loop-i in
     let i = length l.yielded in
     let some : 0 < a.form = omega (arith, form_least a.form c.requires.form_value) in
     let step = c.in-Some.ensures.steps.0 in
     let t = cut a.form a.list.now some (chunks_exact_rest (enumerate_source l.i-iterator)) i l.invariant.rest c.in-Some.part.now (chunks_exact_rest (enumerate_source c.next.new.self)) step.1.0 (step.1.1 ∙ l.invariant.size) in
-    let answer = ap (command_answer memory_size a.s (a.left - l.used)) (sym t.part_is) ∙ sym c.read_command-answer.ensures.value in
-    let n = c.in-Refused.n in
+    let answer = ap (command_answer memory_size a.s (a.left - l.used)) (sym t.part_is) ∙ sym c.read_command.ensures.value in
     let place = c.in-Some.ensures.steps.1 ∙ l.invariant.count in
-    ap (λ (k : ℕ). record { number = n; place = k; used = 0 }) place
-    ∙ pass_refused _ _ _ _ _ _ i l.used l.invariant.going n t.more (answer ∙ c.in-Refused.is)
+    rw place (pass_refused _ _ _ _ _ _ i l.used l.invariant.going _ t.more (answer ∙ c.in-Err.is))
 
 pub overflow_add-used : goal.overflow_add-used
 overflow_add-used c = let a = c.args in
@@ -45,8 +43,8 @@ overflow_add-used c = let a = c.args in
     let some : 0 < a.form = omega (arith, form_least a.form c.requires.form_value) in
     let step = c.in-Some.ensures.steps.0 in
     let t = cut a.form a.list.now some (chunks_exact_rest (enumerate_source l.i-iterator)) i l.invariant.rest c.in-Some.part.now (chunks_exact_rest (enumerate_source c.next.new.self)) step.1.0 (step.1.1 ∙ l.invariant.size) in
-    let answer = ap (command_answer memory_size a.s (a.left - l.used)) (sym t.part_is) ∙ sym c.read_command-answer.ensures.value in
-    omega (arith, c.words_taken.ensures, words_fit _ _ _ _ _ _ i l.used l.invariant.going _ (answer ∙ c.in-Accepted.is))
+    let answer = ap (command_answer memory_size a.s (a.left - l.used)) (sym t.part_is) ∙ sym c.read_command.ensures.value in
+    omega (arith, c.words_taken.ensures, words_fit _ _ _ _ _ _ i l.used l.invariant.going _ (answer ∙ c.in-Ok.is))
 
 pub loop-i-preserved : goal.loop-i-preserved
 loop-i-preserved c = let a = c.args in
@@ -55,10 +53,10 @@ loop-i-preserved c = let a = c.args in
     let some : 0 < a.form = omega (arith, form_least a.form c.requires.form_value) in
     let step = c.in-Some.ensures.steps.0 in
     let t = cut a.form a.list.now some (chunks_exact_rest (enumerate_source l.i-iterator)) i l.invariant.rest c.in-Some.part.now (chunks_exact_rest (enumerate_source c.next.new.self)) step.1.0 (step.1.1 ∙ l.invariant.size) in
-    let answer = ap (command_answer memory_size a.s (a.left - l.used)) (sym t.part_is) ∙ sym c.read_command-answer.ensures.value in
+    let answer = ap (command_answer memory_size a.s (a.left - l.used)) (sym t.part_is) ∙ sym c.read_command.ensures.value in
     record {
       going = rw (length_push, c.words_taken.ensures)
-          (going_turn _ _ _ _ _ _ i l.used l.invariant.going _ t.more (omega (arith, c.words_taken.ensures, c.words_taken.type_inv)) (answer ∙ c.in-Accepted.is));
+          (going_turn _ _ _ _ _ _ i l.used l.invariant.going _ t.more (omega (arith, c.words_taken.ensures, c.words_taken.type_inv)) (answer ∙ c.in-Ok.is));
       count = rw length_push (c.in-Some.ensures.steps.2 ∙ ap (λ (k : ℕ). k + 1) l.invariant.count);
       size = step.0 ∙ l.invariant.size;
       rest = rw length_push t.rest_is;

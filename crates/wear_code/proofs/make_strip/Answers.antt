@@ -6,6 +6,8 @@ use lib.ListN.{length}
 use lib.Seq.{length-sets}
 use Rattle.wear.specs.Strip.{strip_with, columns, list_bytes}
 use Rattle.wear.proofs.Lists.{asked, asked_font, count_most, words_most, strip_length, strip_far, strip_short, strip_made_lem, columns_near, writes_near, list_room, word_room, whole_strip, refused_strip}
+use Rattle.refusal.specs.Number.{number}
+use Rattle.refusal.specs.declared.Refusal.TheVariants.{Room, WearRange}
 use Rattle.wear_code.proofs.make_strip.Goals as goal
 
 pub columns_reach-requires : goal.columns_reach-requires
@@ -21,10 +23,12 @@ pub overflow_mul-count : goal.overflow_mul-count
 overflow_mul-count c = omega (arith, words_most (length c.args.digits.now) c.args.a.depth c.words_per_glyph.result c.requires.digits_len_bound c.words_per_glyph.ensures)
 
 pub returns-then-not-reach : goal.returns-then-not-reach
-returns-then-not-reach c = let a = c.args in let told = refused_strip (strip_with a.a a.heights.now a.digits.now a.site.now a.factory.now) a.list.now a.words.now 27 (strip_far a.a a.heights.now a.digits.now a.site.now a.factory.now (length a.list.now) (length a.words.now) c.requires.factory_value _ _ _ (ap (λ n. 32 * (n + length a.digits.now)) c.column_commands.ensures) c.words_per_glyph.ensures refl _ _ c.columns_reach.ensures c.writes_reach.ensures (ap not c.if-not-reach.true)) (λ e. omega arith) in record { result_value = told.0; list_after = told.1.0; words_after = told.1.1 }
+unfolding number
+returns-then-not-reach c = let a = c.args in let told = refused_strip (strip_with a.a a.heights.now a.digits.now a.site.now a.factory.now) a.list.now a.words.now WearRange (strip_far a.a a.heights.now a.digits.now a.site.now a.factory.now (length a.list.now) (length a.words.now) c.requires.factory_value _ _ _ (ap (λ n. 32 * (n + length a.digits.now)) c.column_commands.ensures) c.words_per_glyph.ensures refl _ _ c.columns_reach.ensures c.writes_reach.ensures (ap not c.if-not-reach.true)) in record { result_value = told.0; list_after = told.1.0; words_after = told.1.1 }
 
 pub returns-then-short : goal.returns-then-short
-returns-then-short c = let a = c.args in let told = refused_strip (strip_with a.a a.heights.now a.digits.now a.site.now a.factory.now) a.list.now a.words.now 17 (strip_short a.a a.heights.now a.digits.now a.site.now a.factory.now (length a.list.now) (length a.words.now) c.requires.factory_value _ _ _ (ap (λ n. 32 * (n + length a.digits.now)) c.column_commands.ensures) c.words_per_glyph.ensures refl _ _ c.columns_reach.ensures c.writes_reach.ensures (ap not c.if-not-reach.false) c.if-short.true) (λ e. omega arith) in record { result_value = told.0; list_after = told.1.0; words_after = told.1.1 }
+unfolding number
+returns-then-short c = let a = c.args in let told = refused_strip (strip_with a.a a.heights.now a.digits.now a.site.now a.factory.now) a.list.now a.words.now Room (strip_short a.a a.heights.now a.digits.now a.site.now a.factory.now (length a.list.now) (length a.words.now) c.requires.factory_value _ _ _ (ap (λ n. 32 * (n + length a.digits.now)) c.column_commands.ensures) c.words_per_glyph.ensures refl _ _ c.columns_reach.ensures c.writes_reach.ensures (ap not c.if-not-reach.false) c.if-short.true) in record { result_value = told.0; list_after = told.1.0; words_after = told.1.1 }
 
 pub put_columns-at-requires : goal.put_columns-at-requires
 put_columns-at-requires c = let a = c.args in record { checked = asked _ _ c.requires.factory_value; drawable = c.requires.drawable; heights_value = columns_near a.a a.heights.now a.digits.now a.site.now a.factory.now (length a.list.now) (length a.words.now) c.requires.factory_value _ _ _ (ap (λ n. 32 * (n + length a.digits.now)) c.column_commands.ensures) c.words_per_glyph.ensures refl _ _ c.columns_reach.ensures c.writes_reach.ensures (ap not c.if-not-reach.false); heights_in_bounds = omega (arith, strip_length a.a a.heights.now a.digits.now a.site.now a.factory.now, list_room a.a a.heights.now a.digits.now a.site.now a.factory.now (length a.list.now) (length a.words.now) c.requires.factory_value _ _ _ (ap (λ n. 32 * (n + length a.digits.now)) c.column_commands.ensures) c.words_per_glyph.ensures refl c.if-short.false) }
