@@ -15,6 +15,7 @@ use record::Record;
 use screen::{Origin, ScreenValues};
 
 // Whether a number is a listed register or 10000h.
+#[tactic(auto, unfolding(chip::specs::Register::listed))]
 fn is_listed(number: u32) -> bool
     ensures { result ≡ listed number }
 {
@@ -27,6 +28,7 @@ fn is_listed(number: u32) -> bool
 }
 
 // Whether a value lies in the field of a register.
+#[tactic(auto, unfolding(chip::specs::Register::fits))]
 fn in_field(number: u32, value: u32) -> bool
     ensures { result ≡ fits number value }
 {
@@ -43,6 +45,7 @@ fn in_field(number: u32, value: u32) -> bool
 }
 
 // The screen registers once a value is written.
+#[tactic(auto, unfolding(chip::specs::Register::screen_after))]
 fn screen_after(s: ScreenValues, number: u32, value: u32) -> ScreenValues
     ensures { result ≡ screen_after s number value }
 {
@@ -164,7 +167,8 @@ pub fn starts_blit(r: Record) -> bool
     (r.number == 0x8000) & (r.value % 2 == 1)
 }
 
-// The number of the first of four checks that fails; 0 where none does.
+// The number of the first of four checks that fails; 0 where none does. Four tests are as plain as two arrays and a loop.
+#[tactic(auto, unfolding(record::specs::Checks::first_of))]
 fn first_fault(listed: bool, value: bool, reach: bool, order: bool) -> u32
     ensures { result ≡ first_of (row 20 listed ∷ row 21 value ∷ row 22 reach ∷ row 23 order ∷ []) }
 {

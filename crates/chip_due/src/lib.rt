@@ -117,6 +117,7 @@ pub const NO_WORD: Due = Due {
 };
 
 // The next word that is due once one has come.
+#[tactic(auto, unfolding(chip::specs::Admit::due_after))]
 fn due_after(b: Registers, d: Due) -> Due
     ensures { result ≡ due_after b d }
 {
