@@ -12,6 +12,7 @@ use reader::{Display, Look, PointAnswer};
 use screen::{Screen, ScreenValues};
 
 // Refusal 21: whether each of the six values is in its field.
+#[tactic(auto, unfolding(screen::specs::Fields::values_fit))]
 fn values_fit(v: ScreenValues) -> bool
     ensures { result ≡ values_fit v }
 {
@@ -25,6 +26,7 @@ fn values_fit(v: ScreenValues) -> bool
 }
 
 // What a screen sets the panel to.
+#[tactic(auto, unfolding(reader::specs::Read::display_of))]
 pub fn display_of(s: Screen) -> Display
     ensures { result ≡ display_of s }
 {
@@ -41,6 +43,7 @@ pub fn display_of(s: Screen) -> Display
 const GIVEN_CHECKS: [u32; 8] = [18, 1, 2, 3, 4, 5, 21, 24];
 
 // The first of these that fails; 0 for none.
+#[tactic(auto, unfolding(reader::specs::Read::read_rows, record::specs::Checks::rows_with))]
 fn first_fault(size: u64, d: Display, values: ScreenValues, p: u32, q: u32, lent: u64) -> u32
     ensures { result ≡ first_of (take 8 (read_rows size d values p q lent)) }
 {
