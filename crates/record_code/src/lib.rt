@@ -40,7 +40,7 @@ pub fn u32_at(b: &[u8], at: usize) -> u32
     u32::from_le_bytes([b[at], b[at + 1], b[at + 2], b[at + 3]])
 }
 
-// Whether each byte is zero.
+// Whether each byte is zero. All are looked at, and not up to the first that is not (`all`): without a branch the loop is faster.
 pub fn all_zero(b: &[u8]) -> bool
     ensures { result ≡ all_zero b.now }
 {
@@ -114,7 +114,7 @@ pub fn least(a: usize, b: usize) -> usize
     a.min(b)
 }
 
-// Whether one of the checks found something.
+// Whether one of the checks found something; all are looked at, as above.
 fn any_of(fails: &[bool]) -> bool
     ensures { result ≡ any_of fails.now }
 {
@@ -125,7 +125,7 @@ fn any_of(fails: &[bool]) -> bool
     any
 }
 
-// The number of the first check that fails; 0 where none does, which is asked of all at once.
+// The number of the first check that fails; 0 where none does, which is asked of all at once. Two slices and not pairs: `rows_with` takes them so.
 pub fn first_of(numbers: &[u32], fails: &[bool]) -> u32
     requires { length numbers.now ≡ length fails.now }
     ensures { result ≡ first_of (rows_with numbers.now fails.now) }
