@@ -13,7 +13,7 @@ ghost use Rattle.blit_code.specs.Lines.{lag_of, lines_pixel, low_end, AboveZero}
 use blit::{From, Job, Mix};
 
 // From which pixel on a move's source is a pixel that its own line has stored; s and d are the low ends of the two lines.
-#[tactic(auto, using(crate::proofs::Lines::lag_down_own, crate::proofs::Lines::lag_down_none, crate::proofs::Lines::lag_up_own, crate::proofs::Lines::lag_up_none))]
+#[tactic(auto, unfolding(crate::specs::Lines::lag_of))]
 fn lag_of(down: bool, bytes: usize, width: usize, s: usize, d: usize) -> usize
     requires { 0 < bytes }
     ensures { result ≡ lag_of down bytes width s d }
@@ -31,6 +31,7 @@ fn lag_of(down: bool, bytes: usize, width: usize, s: usize, d: usize) -> usize
 }
 
 // The low end of line j of a rectangle that is drawn from an address.
+#[tactic(auto, unfolding(crate::specs::Lines::low_end))]
 fn low_end(down: bool, bytes: usize, line: usize, width: usize, at: u32, j: usize) -> usize
     requires { (bytes ≤ 2) × (line ≤ 4096) × (width ≤ 1024) × (j ≤ 1024) × AboveZero down bytes line width at j }
     ensures { result ≡ low_end down bytes line width at j }
