@@ -2,10 +2,9 @@
 use mathlib.Core.Path.{◌≡◌, refl, sym, ap, ap₂, ◌∙◌, subst, fun_ext}
 use mathlib.Core.Bool.{Bool, true, false}
 use mathlib.Core.List.{List, [], ◌++◌}
-use Prim.Native.Nat.{ℕ, zero, suc, ◌+◌, ◌-◌, ◌*◌, ◌/◌, ◌%◌, ◌≤◌, ◌<◌, max}
+use Prim.Native.Nat.{ℕ, zero, suc, ◌+◌, ◌-◌, ◌*◌, ◌%◌, ◌≤◌, ◌<◌, max}
 use native.Mathlib.Nat.{add-mul, dvd-add, dvd-mul_left, dvd-mul_left_of_dvd, dvd_of_mod-eq-zero, dvd_refl, dvd-sub, mod-eq-zero_of_dvd, mod-lt, mul-le-mul, mul-le-mul_right, suc-mul}
 use native.Mathlib.Omega.{arith}
-use borrow.Author.Tests.{lt-ltb, le-ltb}
 use lib.Dec.{lit<}
 use lib.ListN.{length, get_or, take, drop}
 use Rattle.pixel.specs.Pixel.{get_pixel}
@@ -25,33 +24,7 @@ use Rattle.blit_pattern.proofs.Tiles.{stored_pixel_lem}
 use Rattle.blit_code.specs.Lines.{lag_of, lines_pixel, low_end, AboveZero}
 use Rattle.blit_code.proofs.Lift.{fill_put_back, put_back, sourced_move}
 
--- ---- lags
-
-pub lag_down_own : (down : Bool) (bytes width s d : ℕ) → down ≡ true → d < s → (s - d) / bytes ≡ lag_of down bytes width s d
-unfolding lag_of
-lag_down_own down bytes width s d e h = rw e (rw (lt-ltb d s h) refl)
-
-pub lag_down_none : (down : Bool) (bytes width s d : ℕ) → down ≡ true → s ≤ d → width ≡ lag_of down bytes width s d
-unfolding lag_of
-lag_down_none down bytes width s d e h = rw e (rw (le-ltb d s h) refl)
-
-pub lag_up_own : (down : Bool) (bytes width s d : ℕ) → down ≡ false → s < d → (d - s) / bytes ≡ lag_of down bytes width s d
-unfolding lag_of
-lag_up_own down bytes width s d e h = rw e (rw (lt-ltb s d h) refl)
-
-pub lag_up_none : (down : Bool) (bytes width s d : ℕ) → down ≡ false → d ≤ s → width ≡ lag_of down bytes width s d
-unfolding lag_of
-lag_up_none down bytes width s d e h = rw e (rw (le-ltb s d h) refl)
-
 -- ---- low ends
-
-pub low_down : (down : Bool) (bytes line width a j : ℕ) → down ≡ true → a + bytes - (j * line + width * bytes) ≡ low_end down bytes line width a j
-unfolding low_end
-low_down down bytes line width a j e = rw e refl
-
-pub low_up : (down : Bool) (bytes line width a j : ℕ) → down ≡ false → a + j * line ≡ low_end down bytes line width a j
-unfolding low_end
-low_up down bytes line width a j e = rw e refl
 
 pub zero_down : (down : Bool) (bytes line width a j : ℕ) → down ≡ true → AboveZero down bytes line width a j → j * line + width * bytes ≤ a + bytes
 zero_down down bytes line width a j e p = subst (λ (t : Bool). AboveZero t bytes line width a j) e p

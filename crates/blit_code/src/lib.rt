@@ -13,7 +13,7 @@ ghost use Rattle.blit_code.specs.Lines.{lag_of, lines_pixel, low_end, AboveZero}
 use blit::{From, Job, Mix};
 
 // From which pixel on a move's source is a pixel that its own line has stored; s and d are the low ends of the two lines.
-#[tactic(auto, using(crate::proofs::Lines::lag_down_own, crate::proofs::Lines::lag_down_none, crate::proofs::Lines::lag_up_own, crate::proofs::Lines::lag_up_none))]
+#[tactic(auto, unfolding(crate::specs::Lines::lag_of))]
 fn lag_of(down: bool, bytes: usize, width: usize, s: usize, d: usize) -> usize
     requires { 0 < bytes }
     ensures { result ≡ lag_of down bytes width s d }
@@ -31,6 +31,7 @@ fn lag_of(down: bool, bytes: usize, width: usize, s: usize, d: usize) -> usize
 }
 
 // The low end of line j of a rectangle that is drawn from an address.
+#[tactic(auto, unfolding(crate::specs::Lines::low_end))]
 fn low_end(down: bool, bytes: usize, line: usize, width: usize, at: u32, j: usize) -> usize
     requires { (bytes ≤ 2) × (line ≤ 4096) × (width ≤ 1024) × (j ≤ 1024) × AboveZero down bytes line width at j }
     ensures { result ≡ low_end down bytes line width at j }
@@ -62,14 +63,13 @@ fn move_line(job: Job, j: usize, from: u32, source: &mut [u8], memory: &mut [u8]
     let size = job.width * job.bytes;
     blit_line::copy_bytes(memory, s, size, source);
     let lag = lag_of(job.down, job.bytes, job.width, s, d);
-    let mix = job.mix;
     let e = d + size;
     blit_line::line_worker(
         &mut memory[d..e],
         job.down,
         job.bytes,
         job.width,
-        mix,
+        job.mix,
         source,
         lag,
     );
@@ -101,8 +101,7 @@ fn row_line(
     let row = rows[(y + j) % 8];
     blit_pattern::tile_line(row, job.bytes, x, job.width, source);
     let at = low_end(job.down, job.bytes, job.line, job.width, job.destination, j);
-    let mix = job.mix;
-    put_line(job.bytes, mix, at, job.width, source, memory);
+    put_line(job.bytes, job.mix, at, job.width, source, memory);
 }
 
 // Line j of a pattern fill from its eight source lines, side by side, each of 2048 bytes.
@@ -111,10 +110,9 @@ fn pattern_line(job: Job, j: usize, lines: &[u8], memory: &mut [u8])
     ensures { memory.new ≡ chip_line (blit_of job (given (λ i k. lines_pixel job.bytes lines.now i k))) (towards job.down) j job.width memory.old }
 {
     let at = low_end(job.down, job.bytes, job.line, job.width, job.destination, j);
-    let mix = job.mix;
     let part = j % 8 * 2048;
     let e = part + 2048;
-    put_line(job.bytes, mix, at, job.width, &lines[part..e], memory);
+    put_line(job.bytes, job.mix, at, job.width, &lines[part..e], memory);
 }
 
 // All lines of a blit of one colour.
@@ -182,8 +180,7 @@ pub fn perform(job: Job, memory: &mut [u8])
     requires { JobOk (length memory.old) job }
     ensures { memory.new ≡ performed job memory.old }
 {
-    let from = job.from;
-    match from {
+    match job.from {
         From::Colour(colour) => colour_lines(job, colour, memory),
         From::Memory(at) => move_lines(job, at, memory),
         From::Pattern(at, x, y) => pattern_fill(job, at, x, y, memory),

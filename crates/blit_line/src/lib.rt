@@ -129,7 +129,7 @@ fn combine_pixels(line: &mut [u8], bytes: usize, width: usize, mix: Mix, source:
 }
 
 // Which pixel of a line, from its low end, is drawn as the n-th.
-#[tactic(auto, using(blit::proofs::Worker::rank_up, blit::proofs::Worker::rank_down))]
+#[tactic(auto, unfolding(blit::specs::Line::rank))]
 fn rank_of(down: bool, width: usize, n: usize) -> usize
     requires { n < width }
     ensures { (result ≡ rank down width n) × (result < width) }

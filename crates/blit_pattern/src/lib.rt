@@ -12,7 +12,7 @@ fn read_row(memory: &[u8], bytes: usize, at: usize) -> [u16; 8]
     requires { (0 < bytes) × (bytes ≤ 2) × (at + 8 * bytes ≤ length memory.now) }
     ensures { result ≡ row_at bytes memory.now at }
 {
-    // Not by `array::from_fn`: its contract does not say that each call reads the same memory, and the proof stays open.
+    // Not by `array::from_fn`: of each element its contract leaves open what the closure holds, and the proof does not close.
     let mut row = [0u16; 8];
     for u in 0..8 {
         row[u] = pixel_code::get_pixel(memory, bytes, at + u * bytes);

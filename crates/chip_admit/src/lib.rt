@@ -16,6 +16,7 @@ use refusal::{Refusal, Refused};
 use screen::ScreenValues;
 
 // Whether a number is a listed register or 10000h.
+#[tactic(auto, unfolding(chip::specs::Register::listed))]
 fn is_listed(number: u32) -> bool
     ensures { result ≡ listed number }
 {
@@ -28,6 +29,7 @@ fn is_listed(number: u32) -> bool
 }
 
 // Whether a value lies in the field of a register.
+#[tactic(auto, unfolding(chip::specs::Register::fits))]
 fn in_field(number: u32, value: u32) -> bool
     ensures { result ≡ fits number value }
 {
@@ -44,6 +46,7 @@ fn in_field(number: u32, value: u32) -> bool
 }
 
 // The screen registers once a value is written.
+#[tactic(auto, unfolding(chip::specs::Register::screen_after))]
 fn screen_after(s: ScreenValues, number: u32, value: u32) -> ScreenValues
     ensures { result ≡ screen_after s number value }
 {

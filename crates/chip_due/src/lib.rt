@@ -110,6 +110,7 @@ fn words_of(b: Registers) -> u64
 }
 
 // The next word that is due once one has come.
+#[tactic(auto, unfolding(chip::specs::Admit::due_after))]
 fn due_after(b: Registers, d: Due) -> Due
     ensures { result ≡ due_after b d }
 {

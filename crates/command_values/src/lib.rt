@@ -9,6 +9,7 @@ use command::Command;
 use screen::{Image, Screen};
 
 // The image that a command draws on.
+#[tactic(auto, unfolding(command::specs::Command::surface_of))]
 pub fn surface_of(s: Screen, c: Command) -> Image
     ensures { result ≡ surface_of s c }
 {
@@ -28,12 +29,14 @@ fn pixel_address(s: Screen, c: Command, x: u32, y: u32) -> u64
 }
 
 // The addresses of the upper left pixels.
+#[tactic(auto, unfolding(command::specs::Command::destination_of))]
 pub fn destination_of(s: Screen, c: Command) -> u64
     ensures { (result ≡ destination_of s c) × (result ≤ 0x4000000000000) }
 {
     pixel_address(s, c, c.x as u32, c.y as u32)
 }
 
+#[tactic(auto, unfolding(command::specs::Command::source_of))]
 pub fn source_of(s: Screen, c: Command) -> u64
     ensures { (result ≡ source_of s c) × (result ≤ 0x4000000000000) }
 {
@@ -74,6 +77,7 @@ fn operation_value(s: Screen, c: Command) -> u64
 }
 
 // The value of 8008h.
+#[tactic(auto, unfolding(command::specs::Values::command_value))]
 fn command_value(s: Screen, c: Command) -> u64
     ensures { result ≡ command_value s c }
 {
@@ -89,6 +93,7 @@ fn pattern_pixel(pattern: u32, x: u8, y: u8, depth: u8) -> u64
 }
 
 // The address of the pattern's pixel that a rectangle starts with.
+#[tactic(auto, unfolding(command::specs::Values::pattern_value))]
 fn pattern_value(s: Screen, c: Command) -> u64
     ensures { result ≡ pattern_value s c }
 {
@@ -96,6 +101,7 @@ fn pattern_value(s: Screen, c: Command) -> u64
 }
 
 // The address of the pixel that a command starts at, of a rectangle whose upper left pixel is (x, y).
+#[tactic(auto, unfolding(command::specs::Values::last_column, command::specs::Values::last_line))]
 fn start_value(s: Screen, c: Command, x: u16, y: u16) -> u64
     ensures { result ≡ address_of s.depth (surface_of s c) (x + last_column s c) (y + last_line s c) }
 {
@@ -118,6 +124,7 @@ fn source_value(s: Screen, c: Command) -> u64
 }
 
 // The value of 8010h.
+#[tactic(auto, unfolding(command::specs::Values::destination_value))]
 fn destination_value(s: Screen, c: Command) -> u64
     ensures { result ≡ destination_value s c }
 {
@@ -145,6 +152,7 @@ fn colour_value(c: Command) -> u64
 }
 
 // The value of 8000h.
+#[tactic(auto, unfolding(command::specs::Values::control_value))]
 fn control_value(depth: u8) -> u64
     ensures { result ≡ control_value depth }
 {

@@ -16,7 +16,6 @@ ghost use Rattle.compiler.specs.Part.{RefusedPart};
 ghost use Rattle.files.specs.System.{YesOrNo, LoadedBytes};
 ghost use Rattle.compile.specs.Chip.{compiling_for, buffer_for};
 
-use files::Loaded;
 use std::rt::{Env, Files};
 
 // Prints the lines of a part of a stream, at most 1,024 of them; answers whether it could.
@@ -30,20 +29,16 @@ fn print_lines(rt: &(impl Print + Eprint), part: &[u8]) -> bool
 
 // Prints the lines of a stream.
 fn print_stream(rt: &(impl Print + Eprint), stream: &[u8]) {
-    let mut at = 0;
-    while at < stream.len() {
-        let room = record_code::least(8192, stream.len() - at);
-        let end = at + room;
-        if !print_lines(rt, &stream[at..end]) {
+    for part in stream.chunks(8192) {
+        if !print_lines(rt, part) {
             return;
         }
-        at = end;
     }
 }
 
 // Prints the bytes of a refused command, if there is one.
 fn print_part(rt: &(impl Print + Eprint), part: &[u8]) {
-    if part.len() == 0 {
+    if part.is_empty() {
         return;
     }
     let mut bytes = [b' '; 144];
@@ -94,11 +89,16 @@ fn run(
 }
 
 // Reads the list of the file that argument i names; the S1D13706's is empty where it is left out.
-fn load_list(rt: &(impl Env + Files + Eprint), older: bool, i: usize, list: &mut [u8]) -> Loaded
+fn load_list(
+    rt: &(impl Env + Files + Eprint),
+    older: bool,
+    i: usize,
+    list: &mut [u8],
+) -> Option<usize>
     ensures { LoadedBytes list.old list.new result }
 {
     if older && files::is_left_out(rt, i) {
-        return Loaded { ok: true, n: 0 };
+        return Some(0);
     }
     files::load(rt, i, list)
 }
@@ -118,23 +118,17 @@ fn main(rt: HostRuntime) {
         return;
     }
     let mut screen = [0u8; 33];
-    let s = files::load(&rt, first, &mut screen);
-    if !s.ok {
+    let Some(ns) = files::load(&rt, first, &mut screen) else {
         return;
-    }
+    };
     let mut list = files::list();
-    let l = load_list(&rt, older, first + 1, &mut list);
-    if !l.ok {
+    let Some(nl) = load_list(&rt, older, first + 1, &mut list) else {
         return;
-    }
+    };
     let mut words = files::words();
-    let w = files::load_words(&rt, first + 2, &mut words);
-    if !w.ok {
+    let Some(nw) = files::load_words(&rt, first + 2, &mut words) else {
         return;
-    }
-    let ns = s.n;
-    let nl = l.n;
-    let nw = w.n;
+    };
     run(
         &rt,
         older,

@@ -11,38 +11,34 @@ use Rattle.io.specs.Counts.{IsPrefixLen}
 use Rattle.text.specs.Lines.{joined, word_of}
 use Rattle.text.proofs.Stored.{counts}
 use Rattle.files.specs.System.{YesOrNo, LoadedBytes, LoadedWords, LoadedMemory}
-use Rattle.files.specs.declared.Loaded.{Loaded}
+use Rattle.std.specs.Prelude.{Option, Some, None}
 
 pub yes_or_no : (answer : Bool) → YesOrNo answer
 yes_or_no true = inl refl
 yes_or_no false = inr refl
 
-not_failed : (n : ℕ) → true ≡ false → n ≡ 0
-not_failed n e =
-    let z : ◌≡◌ {A = ℕ} 1 0 = ap (λ (b : Bool). cond b 1 0) e in
-    absurd (omega arith)
-
-pub bytes_loaded : (old new : List ℕ) (n : ℕ) → IsPrefixLen n new → length new ≡ length old → LoadedBytes old new (record { ok = true; n = n })
-bytes_loaded old new n h s = record { within = h; same = s; failed = not_failed n }
-
 -- the words of m bytes, two by two
-pub words_loaded : (old new bytes : List ℕ) (m n : ℕ) → length old ≡ 262144 → m ≡ length bytes → m ≤ 524288 → m % 2 ≡ 0 → n ≡ min (length bytes / 2) (length old) → IsPrefixLen n new → new ≡ sets old 0 (joined (word_of bytes) (min (length bytes / 2) (length old))) → LoadedWords old new (record { ok = true; n = n })
+pub words_loaded : (old new bytes : List ℕ) (m n : ℕ) → length old ≡ 262144 → m ≡ length bytes → m ≤ 524288 → m % 2 ≡ 0 → n ≡ min (length bytes / 2) (length old) → IsPrefixLen n new → new ≡ sets old 0 (joined (word_of bytes) (min (length bytes / 2) (length old))) → LoadedWords old new (Some n)
 words_loaded old new bytes m n room all most even f h e =
     record {
       bytes = bytes;
       pairs = omega arith;
       words = e ∙ ap (λ (k : ℕ). sets old 0 (joined (word_of bytes) k)) (sym f);
       within = h;
-      failed = not_failed n;
     }
 
-pub none_loaded : (old : List ℕ) (ok : Bool) → LoadedWords old old (record { ok = ok; n = 0 })
+pub left_out_words : (old : List ℕ) → LoadedWords old old (Some 0)
 unfolding joined
-none_loaded old ok = record { bytes = []; pairs = refl; words = refl; within = counts 0 old (omega arith); failed = λ _. refl }
+left_out_words old = record { bytes = []; pairs = refl; words = refl; within = counts 0 old (omega arith) }
+
+pub no_words : (old : List ℕ) (r : Option ℕ) → r ≡ None → LoadedWords old old r
+unfolding joined
+no_words old None e = record { bytes = []; pairs = refl; words = refl; within = tt }
+no_words old (Some n) e = cc
 
 -- ---- the display memory
-pub left_out : (old : List ℕ) (n : ℕ) → IsPrefixLen n old → n ≡ min 262144 (length old) → LoadedMemory old old (record { ok = true; n = n })
-left_out old n h e = record { within = h; either = inl (record { ok = refl; count = e; same = refl }) }
+pub left_out : (old : List ℕ) (n : ℕ) → n ≡ min (length old) 262144 → LoadedMemory old old (Some n)
+left_out old n e = record { within = counts n old (omega arith); either = inl (record { count = ap Some (omega arith); same = refl }) }
 
-pub from_file : (old new : List ℕ) (r : Loaded) → LoadedBytes old new r → LoadedMemory old new r
+pub from_file : (old new : List ℕ) (r : Option ℕ) → LoadedBytes old new r → LoadedMemory old new r
 from_file old new r l = record { within = l.within; either = inr l }

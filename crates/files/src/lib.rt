@@ -13,7 +13,6 @@ use std::env::FillError;
 use std::fs;
 use std::io::{Error, Read, Result};
 use std::rt::{Env, Files};
-use text::Number;
 
 // The most host words that a program takes.
 const MOST_WORDS: usize = 262144;
@@ -23,17 +22,10 @@ const MISSING: i32 = 22;
 
 const TOO_LONG: i32 = 36;
 
-// Whether all went well, and how many numbers of the buffer were filled.
-#[derive(Drop)]
-pub struct Loaded {
-    pub ok: bool,
-    pub n: usize,
-}
-
 // Room for a list of 64 commands in the long form, and one byte more, so that a longer file is seen.
 pub fn list() -> [u8; 3073]
     ensures value { result ≡ replicate 3073 0 }
-    ensures value_2 { 3073 ≡ length result }
+    ensures size { 3073 ≡ length result }
 {
     [0; 3073]
 }
@@ -41,7 +33,7 @@ pub fn list() -> [u8; 3073]
 // Bytes of a word file, one more than the most, so that a longer file is seen.
 fn word_bytes() -> [u8; 524289]
     ensures value { result ≡ replicate 524289 0 }
-    ensures value_2 { 524289 ≡ length result }
+    ensures size { 524289 ≡ length result }
 {
     [0; 524289]
 }
@@ -49,7 +41,7 @@ fn word_bytes() -> [u8; 524289]
 // Room for 262,144 host words.
 pub fn words() -> [u16; 262144]
     ensures value { result ≡ replicate 262144 0 }
-    ensures value_2 { 262144 ≡ length result }
+    ensures size { 262144 ≡ length result }
 {
     [0; 262144]
 }
@@ -57,7 +49,7 @@ pub fn words() -> [u16; 262144]
 // Room for a stream of 2 MiB: 262,144 records.
 pub fn stream() -> [u8; 2097152]
     ensures value { result ≡ replicate 2097152 0 }
-    ensures value_2 { 2097152 ≡ length result }
+    ensures size { 2097152 ≡ length result }
 {
     [0; 2097152]
 }
@@ -65,7 +57,7 @@ pub fn stream() -> [u8; 2097152]
 // Room for a display memory, and one byte more, so that a longer file is seen.
 pub fn memory() -> [u8; 262145]
     ensures value { result ≡ replicate 262145 0 }
-    ensures value_2 { 262145 ≡ length result }
+    ensures size { 262145 ≡ length result }
 {
     [0; 262145]
 }
@@ -103,6 +95,7 @@ pub fn read_full(input: &mut impl Read, buffer: &mut [u8]) -> Result<usize>
     ensures { IfOk result (λ n. IsPrefixLen n buffer.new) }
 {
     let mut done = 0;
+    // A read takes as many bytes as it takes, so the step is not known.
     while done < buffer.len() {
         let n = input.read(&mut buffer[done..])?;
         if n == 0 {
@@ -122,25 +115,24 @@ fn read_file(rt: &impl Files, name: &str, buffer: &mut [u8]) -> Result<usize>
 }
 
 // Reads a file into the buffer, as much of it as there is room for; or says why it cannot be read.
-fn load_path(rt: &(impl Files + Eprint), path: &[u8], buffer: &mut [u8]) -> Loaded
+fn load_path(rt: &(impl Files + Eprint), path: &[u8], buffer: &mut [u8]) -> Option<usize>
     ensures { LoadedBytes buffer.old buffer.new result }
 {
     let Ok(name) = str::from_utf8(path) else {
         say(rt, b"argument", b"not UTF-8");
-        return Loaded { ok: false, n: 0 };
+        return None;
     };
-    let n = match read_file(rt, name, buffer) {
-        Ok(n) => n,
+    match read_file(rt, name, buffer) {
+        Ok(n) => Some(n),
         Err(why) => {
             fail(rt, path, why);
-            return Loaded { ok: false, n: 0 };
+            None
         }
-    };
-    Loaded { ok: true, n }
+    }
 }
 
 // Reads the file that argument i names.
-pub fn load(rt: &(impl Env + Files + Eprint), i: usize, buffer: &mut [u8]) -> Loaded
+pub fn load(rt: &(impl Env + Files + Eprint), i: usize, buffer: &mut [u8]) -> Option<usize>
     ensures { LoadedBytes buffer.old buffer.new result }
 {
     let mut path = [0u8; 4096];
@@ -148,7 +140,7 @@ pub fn load(rt: &(impl Env + Files + Eprint), i: usize, buffer: &mut [u8]) -> Lo
         Ok(n) => load_path(rt, &path[..n], buffer),
         Err(why) => {
             fail(rt, b"argument", argument_error(why));
-            Loaded { ok: false, n: 0 }
+            None
         }
     }
 }
@@ -212,43 +204,41 @@ pub fn is_left_out(rt: &impl Env, i: usize) -> bool
 }
 
 // Reads the host words of the file that argument i names, two bytes each; none where it is left out.
-pub fn load_words(rt: &(impl Env + Files + Eprint), i: usize, words: &mut [u16; 262144]) -> Loaded
+pub fn load_words(
+    rt: &(impl Env + Files + Eprint),
+    i: usize,
+    words: &mut [u16; 262144],
+) -> Option<usize>
     ensures { LoadedWords words.old words.new result }
 {
     if is_left_out(rt, i) {
-        return Loaded { ok: true, n: 0 };
+        return Some(0);
     }
     let mut bytes = word_bytes();
-    let b = load(rt, i, &mut bytes);
-    let n = b.n;
-    if !b.ok {
-        return Loaded { ok: false, n: 0 };
-    }
+    let n = load(rt, i, &mut bytes)?;
     if 2 * MOST_WORDS < n {
         say(rt, b"host words", b"more than 262144");
-        return Loaded { ok: false, n: 0 };
+        return None;
     }
     if n % 2 != 0 {
         say(rt, b"host words", b"an odd number of bytes");
-        return Loaded { ok: false, n: 0 };
+        return None;
     }
-    let k = text_lines::words_of(&bytes[..n], words);
-    Loaded { ok: true, n: k }
+    Some(text_lines::words_of(&bytes[..n], words))
 }
 
 // The display memory of the file that argument i names; 262,144 bytes as they are where it is left out.
-pub fn load_memory(rt: &(impl Env + Files + Eprint), i: usize, memory: &mut [u8]) -> Loaded
+pub fn load_memory(rt: &(impl Env + Files + Eprint), i: usize, memory: &mut [u8]) -> Option<usize>
     ensures { LoadedMemory memory.old memory.new result }
 {
     if is_left_out(rt, i) {
-        let n = io::count(262144, memory);
-        return Loaded { ok: true, n };
+        return Some(memory.len().min(262144));
     }
     load(rt, i, memory)
 }
 
 // The number that argument i gives: none where it is left out or longer than a path.
-pub fn number(rt: &impl Env, i: usize) -> Number
+pub fn number(rt: &impl Env, i: usize) -> Option<u32>
     ensures { GivenNumber result }
 {
     let mut path = [0u8; 4096];

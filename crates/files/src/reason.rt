@@ -34,7 +34,7 @@ impl fmt::Display for Line<'_> {
     }
 }
 
-// A text of at most 256 bytes, cut there.
+// A text of at most 256 bytes, cut there. No heap: it is written into a buffer, with how much of it is taken beside it.
 #[derive(Drop)]
 struct Cut {
     room: [u8; 256],

@@ -32,45 +32,24 @@ fn run_with(
     requires { first ≤ 5 }
 {
     let mut words = files::words();
-    let w = files::load_words(rt, first + 2, &mut words);
-    if !w.ok {
+    let Some(nw) = files::load_words(rt, first + 2, &mut words) else {
         return;
-    }
+    };
     let mut memory = files::memory();
-    let m = files::load_memory(rt, first + 3, &mut memory);
-    if !m.ok {
+    let Some(nm) = files::load_memory(rt, first + 3, &mut memory) else {
         return;
-    }
-    let nw = w.n;
-    let nm = m.n;
+    };
+    let words = &words[..nw];
+    let memory = &mut memory[..nm];
     if files::is_left_out(rt, first + 4) {
-        panel_show::run(
-            rt,
-            asked,
-            form,
-            screen,
-            list,
-            &words[..nw],
-            &mut memory[..nm],
-        );
+        panel_show::run(rt, asked, form, screen, list, words, memory);
         return;
     }
     let mut view = [0u8; 33];
-    let v = files::load(rt, first + 4, &mut view);
-    if !v.ok {
+    let Some(nv) = files::load(rt, first + 4, &mut view) else {
         return;
-    }
-    let nv = v.n;
-    panel_show::run_through(
-        rt,
-        asked,
-        form,
-        screen,
-        list,
-        &words[..nw],
-        &view[..nv],
-        &mut memory[..nm],
-    );
+    };
+    panel_show::run_through(rt, asked, form, screen, list, words, &view[..nv], memory);
 }
 
 // Reads the screen record and the list, which the arguments from `first` on name, and then the other files.
@@ -78,18 +57,21 @@ fn run_from(rt: &(impl Env + Files + Print + Eprint), asked: Asked, form: u32, f
     requires { first ≤ 5 }
 {
     let mut screen = [0u8; 33];
-    let s = files::load(rt, first, &mut screen);
-    if !s.ok {
+    let Some(ns) = files::load(rt, first, &mut screen) else {
         return;
-    }
+    };
     let mut list = files::list();
-    let l = files::load(rt, first + 1, &mut list);
-    if !l.ok {
+    let Some(nl) = files::load(rt, first + 1, &mut list) else {
         return;
-    }
-    let ns = s.n;
-    let nl = l.n;
+    };
     run_with(rt, asked, form, first, &screen[..ns], &list[..nl]);
+}
+
+// The point of arguments i and i + 1; none where one is no number.
+fn point_at(rt: &impl Env, i: usize) -> Option<Asked>
+    requires { i ≤ 5 }
+{
+    Some(Asked::Point(files::number(rt, i)?, files::number(rt, i + 1)?))
 }
 
 fn main(rt: HostRuntime) {
@@ -108,13 +90,11 @@ fn main(rt: HostRuntime) {
     }
     let mut asked = Asked::Picture;
     if at {
-        let p = files::number(&rt, next + 1);
-        let q = files::number(&rt, next + 2);
-        if !(p.ok & q.ok) {
+        let Some(point) = point_at(&rt, next + 1) else {
             files::say(&rt, b"--at", b"P and Q are one to nine digits each");
             return;
-        }
-        asked = Asked::Point(p.n, q.n);
+        };
+        asked = point;
     }
     run_from(&rt, asked, files::form_of(long), first);
 }

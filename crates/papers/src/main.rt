@@ -21,6 +21,7 @@ fn read_script(input: &mut impl Read, script: &mut [u8]) -> usize
     ensures { IsPrefixLen result script.new }
 {
     let mut done = 0;
+    // The step is what was read. `files::read_full` answers an error in place of what was read before it.
     while done < script.len() {
         let n = input.read(&mut script[done..]).unwrap_or(0);
         if n == 0 {
@@ -78,6 +79,7 @@ fn run(rt: &impl Print, script: &[u8]) {
         all: true,
     };
     let mut at = 0;
+    // The step is a line's length, which is not known before.
     while at < script.len() {
         let end = script_code::line_end(script, at);
         let line = &script[at..end];

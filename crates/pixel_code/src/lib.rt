@@ -92,6 +92,7 @@ fn mask(all: u16, code: u8, k: u32) -> u16
 }
 
 // The masks of a raster code for numbers of so many bits.
+#[tactic(auto, unfolding(pixel::specs::Masking::mask_of))]
 pub fn masks_of(bits: u32, code: u8) -> Masks
     requires { bits ≤ 16 }
     ensures { result ≡ masks_of bits code }
@@ -106,6 +107,7 @@ pub fn masks_of(bits: u32, code: u8) -> Masks
 }
 
 // Each bit from a where x has 1, from b where it has 0.
+#[tactic(auto, unfolding(pixel::specs::Masking::chosen))]
 fn choose(x: u16, a: u16, b: u16) -> u16
     ensures { result ≡ chosen x a b }
 {
@@ -113,6 +115,7 @@ fn choose(x: u16, a: u16, b: u16) -> u16
 }
 
 // Source and destination pixel under masks, all bits together.
+#[tactic(auto, unfolding(pixel::specs::Masking::masked))]
 pub fn combine_under(masks: Masks, s: u16, d: u16) -> u16
     ensures { result ≡ masked masks s d }
 {

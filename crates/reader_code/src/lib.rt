@@ -14,6 +14,7 @@ use refusal::Refusal;
 use screen::{MEMORY_SIZE, Screen, ScreenValues};
 
 // Refusal 21: whether each of the six values is in its field.
+#[tactic(auto, unfolding(screen::specs::Fields::values_fit))]
 fn values_fit(v: ScreenValues) -> bool
     ensures { result ≡ values_fit v }
 {
@@ -27,6 +28,7 @@ fn values_fit(v: ScreenValues) -> bool
 }
 
 // What a screen sets the panel to.
+#[tactic(auto, unfolding(reader::specs::Read::display_of))]
 pub fn display_of(s: Screen) -> Display
     ensures { result ≡ display_of s }
 {

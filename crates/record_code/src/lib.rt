@@ -42,7 +42,7 @@ pub fn u32_at(b: &[u8], at: usize) -> u32
     u32::from_le_bytes([b[at], b[at + 1], b[at + 2], b[at + 3]])
 }
 
-// Whether each byte is zero.
+// Whether each byte is zero. All are looked at, and not up to the first that is not (`all`): without a branch the loop is faster.
 pub fn all_zero(b: &[u8]) -> bool
     ensures { result ≡ all_zero b.now }
 {
@@ -116,7 +116,7 @@ pub fn least(a: usize, b: usize) -> usize
     a.min(b)
 }
 
-// Whether one of the checks found something.
+// Whether one of the checks found something; all are looked at, as above.
 fn any_of(checks: &[(Refusal, bool)]) -> bool
     ensures { result ≡ any_of (found_by checks.now) }
 {

@@ -3,22 +3,22 @@ use mathlib.Core.Path.{◌≡◌, refl}
 use mathlib.Core.List.{[], ◌∷◌, map}
 use Rattle.text.specs.Text.{letters}
 use Rattle.text.specs.Numbers.{number_of, digits_behind}
-use Rattle.sample.specs.Line.{stops, before, behind, sample_with, line_means, lines_of, with_line, samples_of}
-use Rattle.sample.specs.declared.SampleLine.TheVariants.{Sample as Given, Nothing, Bad}
+use Rattle.std.specs.Prelude.{Ok, None}
+use Rattle.sample.specs.Line.{stops, before, behind, given, bad, sample_with, line_means, lines_of, with_line, samples_of}
 
 -- two words with spaces, tabs or a carriage return around them
 samples : map (λ s. line_means (letters s)) ("12 34" ∷ "  7\t100 \r" ∷ "65535 0" ∷ "0 999999999" ∷ "007 08" ∷ [])
-    ≡ (Given 12 34 ∷ Given 7 100 ∷ Given 65535 0 ∷ Given 0 999999999 ∷ Given 7 8 ∷ [])
+    ≡ (given 12 34 ∷ given 7 100 ∷ given 65535 0 ∷ given 0 999999999 ∷ given 7 8 ∷ [])
 unfolding line_means sample_with before behind stops number_of digits_behind
 samples = refl
 
-nothing : map (λ s. line_means (letters s)) ("" ∷ "  " ∷ "\t\r" ∷ []) ≡ (Nothing ∷ Nothing ∷ Nothing ∷ [])
+nothing : map (λ s. line_means (letters s)) ("" ∷ "  " ∷ "\t\r" ∷ []) ≡ (Ok None ∷ Ok None ∷ Ok None ∷ [])
 unfolding line_means behind stops
 nothing = refl
 
 -- one word, three, no number, a sequence number or a height that is too long
 none : map (λ s. line_means (letters s)) ("12" ∷ "12 " ∷ "1 2 3" ∷ "12,34" ∷ "-1 5" ∷ "1 x" ∷ "65536 1" ∷ "1 1000000000" ∷ [])
-    ≡ (Bad ∷ Bad ∷ Bad ∷ Bad ∷ Bad ∷ Bad ∷ Bad ∷ Bad ∷ [])
+    ≡ (bad ∷ bad ∷ bad ∷ bad ∷ bad ∷ bad ∷ bad ∷ bad ∷ [])
 unfolding line_means sample_with before behind stops number_of digits_behind
 none = refl
 

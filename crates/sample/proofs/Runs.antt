@@ -1,20 +1,17 @@
 -- A run of letters, letter by letter.
-use Prim.Native.Nat.{ℕ, suc, ◌+◌, ◌-◌, ◌≤◌, ◌<◌}
-use mathlib.Core.Path.{◌≡◌, refl, sym, ◌∙◌}
-use mathlib.Core.Bool.{true, false}
-use mathlib.Core.List.{List, [], ◌∷◌, ◌++◌, append_assoc, append-nil}
-use native.Mathlib.Numerals.{add-one}
+use Prim.Native.Nat.{ℕ, suc, ◌+◌, ◌-◌, ◌≤◌}
+use mathlib.Core.Path.{◌≡◌, refl, sym, ap, subst}
+use mathlib.Core.Bool.{Bool, true, false, cond}
+use mathlib.Core.List.{List, [], ◌∷◌}
 use native.Mathlib.Omega.{arith}
-use lib.ListN.{length, get_or, take, drop, drop_of_length-le, length-drop}
-use lib.Seq.{drop-cons, take-suc, take_all}
+use lib.ListN.{length, take, drop, length-drop}
+use lib.Seq.{take_all}
+use borrow.Author.Tests.{ltb-false}
+use Rattle.std.specs.Prelude.{Some, None, nat_lt}
+use Rattle.std.specs.List.{position, position_or_len}
+use Rattle.std.specs.Option.{unwrap_or}
 use Rattle.sample.specs.Line.{stops, before, behind}
 use Rattle.sample.specs.declared.Stop.{Stop}
-
--- none of the first i letters ends the run
-pub record Runs (e : Stop) (s : List ℕ) (i : ℕ) : Type 0 where
-  pub within : i ≤ length s
-  pub front : before e s ≡ take i s ++ before e (drop i s)
-  pub rest : behind e s ≡ behind e (drop i s)
 
 -- the run's letters are the first i
 pub record Ended (e : Stop) (s : List ℕ) (i : ℕ) : Type 0 where
@@ -22,37 +19,29 @@ pub record Ended (e : Stop) (s : List ℕ) (i : ℕ) : Type 0 where
   pub front : take i s ≡ before e s
   pub rest : drop i s ≡ behind e s
 
-module _ (e : Stop) (s : List ℕ) where
-  pub run_start : Runs e s 0
-  run_start = record { within = omega arith; front = refl; rest = refl }
+-- up to the first letter that ends it, or all
+ended_at : (e : Stop) (c : ℕ) (s : List ℕ) (b : Bool) → stops e c ≡ b → Ended e s (position_or_len (stops e) s) → Ended e (c ∷ s) (position_or_len (stops e) (c ∷ s))
+unfolding before behind
+ended_at e c s true f h = rw f (record { within = omega arith; front = rw f refl; rest = rw f refl })
+ended_at e c s false f h =
+    let n = position_or_len (stops e) s in
+    let more : 1 + n ≡ suc n = omega arith in
+    rw (f, more) (record { within = omega (arith, h.within); front = rw f (ap (λ (t : List ℕ). c ∷ t) h.front); rest = rw f h.rest })
 
-  module _ (v i : ℕ) (p : v ≡ get_or s i 0) (h : i < length s) (r : Runs e s i) where
-    pub run_on : stops e v ≡ false → Runs e s (i + 1)
-    unfolding before behind
-    run_on f =
-        record {
-          within = omega arith;
-          front = r.front ∙ rw (add-one, take-suc s i 0 h, drop-cons s i 0 h, ← p, f) (sym (append_assoc (take i s) (v ∷ []) (before e (drop (suc i) s))));
-          rest = r.rest ∙ rw (add-one, drop-cons s i 0 h, ← p, f);
-        }
+ended : (e : Stop) (s : List ℕ) → Ended e s (position_or_len (stops e) s)
+unfolding before behind
+ended e [] = record { within = omega arith; front = refl; rest = refl }
+ended e (c ∷ s) = ended_at e c s (stops e c) refl (ended e s)
 
-    pub run_stops : stops e v ≡ true → Ended e s i
-    unfolding before behind
-    run_stops f =
-        record {
-          within = r.within;
-          front = sym (r.front ∙ rw (drop-cons s i 0 h, ← p, f) (append-nil (take i s)));
-          rest = sym (r.rest ∙ rw (drop-cons s i 0 h, ← p, f));
-        }
+place : (b : Bool) (n m : ℕ) → nat_lt n m ≡ b → n ≤ m → unwrap_or (cond b (Some n) None) m ≡ n
+place true n m e h = refl
+place false n m e h = omega (arith, ltb-false n m e)
 
-  pub run_out : (i : ℕ) → length s ≤ i → Runs e s i → Ended e s i
-  unfolding before behind
-  run_out i h r =
-      record {
-        within = r.within;
-        front = sym (r.front ∙ rw (drop_of_length-le s {i = i} h) (append-nil (take i s)));
-        rest = sym (r.rest ∙ rw (drop_of_length-le s {i = i} h));
-      }
+pub run_end : (e : Stop) (s : List ℕ) → Ended e s (unwrap_or (position (stops e) s) (length s))
+run_end e s =
+    let n = position_or_len (stops e) s in
+    let h = ended e s in
+    subst (λ (k : ℕ). Ended e s k) (sym (place (nat_lt n (length s)) n (length s) refl h.within)) h
 
 -- all that is behind a place
 pub all_behind : (s : List ℕ) (n : ℕ) → take (length s - n) (drop n s) ≡ drop n s

@@ -7,13 +7,14 @@ use mathlib.Core.List.{List, [], ◌∷◌}
 use lib.ListN.{length, take, drop, drop_of_length-le}
 use lib.Seq.{drop-drop}
 use lib.Dec.{eqb}
+use Rattle.std.specs.Prelude.{Some, None, Ok, Err}
 use Rattle.ring.specs.Samples.{Sample}
 use Rattle.ring.specs.Kept.{ring_after, taking}
 use Rattle.ring.specs.declared.Ring.{Ring}
-use Rattle.sample.specs.Line.{stops, before, behind, line_means, lines_of, with_line, samples_of}
+use Rattle.sample.specs.Line.{stops, before, behind, Meaning, line_means, lines_of, with_line, samples_of}
+use Rattle.sample.specs.declared.NoSample.{NoSample}
+use Rattle.sample.specs.declared.Sample.{Sample as Given}
 use Rattle.sample.specs.declared.Stop.TheVariants.{LineEnd}
-use Rattle.sample.specs.declared.SampleLine.{SampleLine}
-use Rattle.sample.specs.declared.SampleLine.TheVariants.{Sample as Given, Nothing, Bad}
 use Rattle.sample.proofs.Runs.{Ended, all_behind}
 
 -- the lines behind the line end that a text begins with
@@ -55,28 +56,28 @@ unfolding samples_of lines_of line_means behind with_line
 no_line s i h = rw (drop_of_length-le s {i = i} h)
 
 -- a line's sample first, and then the others
-pub line_first : (r : Ring) (m : SampleLine) (ss : List Sample) → ring_after r (with_line m ss) ≡ ring_after (ring_after r (with_line m [])) ss
+pub line_first : (r : Ring) (m : Meaning) (ss : List Sample) → ring_after r (with_line m ss) ≡ ring_after (ring_after r (with_line m [])) ss
 unfolding with_line ring_after
-line_first r (Given n h) ss = refl
-line_first r Nothing ss = refl
-line_first r Bad ss = refl
+line_first r (Ok (Some g)) ss = refl
+line_first r (Ok None) ss = refl
+line_first r (Err e) ss = refl
 
 -- ---- a line that is taken, and one that is not
-module _ (r : Ring) (line : List ℕ) (m : SampleLine) (means : m ≡ line_means line) where
-  after_line : (k : SampleLine) → m ≡ k → ring_after r (with_line k []) ≡ ring_after r (with_line (line_means line) [])
-  after_line k e = ap (λ (x : SampleLine). ring_after r (with_line x [])) (sym e ∙ means)
+module _ (r : Ring) (line : List ℕ) (m : Meaning) (means : m ≡ line_means line) where
+  after_line : (k : Meaning) → m ≡ k → ring_after r (with_line k []) ≡ ring_after r (with_line (line_means line) [])
+  after_line k e = ap (λ (x : Meaning). ring_after r (with_line x [])) (sym e ∙ means)
 
-  pub sample_taken : (n h : ℕ) → m ≡ Given n h → (taking r n h).ring ≡ ring_after r (with_line (line_means line) [])
+  pub sample_taken : (g : Given) → m ≡ Ok (Some g) → (taking r g.sequence g.height).ring ≡ ring_after r (with_line (line_means line) [])
   unfolding with_line ring_after
-  sample_taken n h e = after_line (Given n h) e
+  sample_taken g e = after_line (Ok (Some g)) e
 
-  pub nothing_taken : m ≡ Nothing → r ≡ ring_after r (with_line (line_means line) [])
+  pub nothing_taken : m ≡ Ok None → r ≡ ring_after r (with_line (line_means line) [])
   unfolding with_line ring_after
-  nothing_taken e = after_line Nothing e
+  nothing_taken e = after_line (Ok None) e
 
-  pub bad_left_out : m ≡ Bad → r ≡ ring_after r (with_line (line_means line) [])
+  pub bad_left_out : (b : NoSample) → m ≡ Err b → r ≡ ring_after r (with_line (line_means line) [])
   unfolding with_line ring_after
-  bad_left_out e = after_line Bad e
+  bad_left_out b e = after_line (Err b) e
 
 -- a line more: from the text at `at`, of which the first line has n letters
 pub line_more : (text : List ℕ) (at n : ℕ) (r next whole : Ring) → Ended LineEnd (take (length text - at) (drop at text)) n

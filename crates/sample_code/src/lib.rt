@@ -2,10 +2,10 @@
 #![tactic(auto)]
 
 ghost use Rattle.std.specs.Prelude.{◌≡◌, ◌≤◌, length, take, drop};
+ghost use Rattle.std.specs.List.{position};
 ghost use Rattle.sample.specs.Line.{stops as stopsAt, before, behind, sample_with, line_means};
 
-use sample::{SampleLine, Stop};
-use text::Number;
+use sample::{NoSample, Sample, Stop};
 
 // Whether a letter ends a run.
 fn stops(stop: Stop, c: u8) -> bool
@@ -19,20 +19,20 @@ fn stops(stop: Stop, c: u8) -> bool
     }
 }
 
+// The place of the first letter that ends the run.
+fn first_stop(stop: Stop, s: &[u8]) -> Option<usize>
+    ensures { result ≡ position (stopsAt stop) s.now }
+{
+    s.iter().position(|c| stops(stop, *c))
+}
+
 // How many letters stand before the first that ends the run.
 pub fn run_end(stop: Stop, s: &[u8]) -> usize
     ensures upper_bound { result ≤ length s.now }
     ensures s_value { take result s.now ≡ before stop s.now }
     ensures s_value_2 { drop result s.now ≡ behind stop s.now }
 {
-    let mut i = 0;
-    while i < s.len() {
-        if stops(stop, s[i]) {
-            return i;
-        }
-        i += 1;
-    }
-    i
+    first_stop(stop, s).unwrap_or(s.len())
 }
 
 // The letters before the first that ends the run.
@@ -52,27 +52,27 @@ pub fn behind_run<'a>(stop: Stop, s: &'a [u8]) -> &'a [u8]
 }
 
 // Two numbers as a sample.
-fn sample_with(a: Number, b: Number) -> SampleLine
+fn sample_with(a: Option<u32>, b: Option<u32>) -> Result<Option<Sample>, NoSample>
     ensures { result ≡ sample_with a b }
 {
-    if a.ok & (b.ok & (a.n <= 65535)) {
-        return SampleLine::Sample(a.n as u16, b.n);
-    }
-    SampleLine::Bad
+    let a = a.ok_or(NoSample)?;
+    let height = b.ok_or(NoSample)?;
+    let sequence = u16::try_from(a).map_err(|_| NoSample)?;
+    Ok(Some(Sample { sequence, height }))
 }
 
-// What a line means.
-pub fn line_means(line: &[u8]) -> SampleLine
+// What a line means: a sample, nothing, or no sample.
+pub fn line_means(line: &[u8]) -> Result<Option<Sample>, NoSample>
     ensures { result ≡ line_means line.now }
 {
     let a = behind_run(Stop::Ink, line);
-    if a.len() == 0 {
-        return SampleLine::Nothing;
+    if a.is_empty() {
+        return Ok(None);
     }
     let b = behind_run(Stop::Ink, behind_run(Stop::Space, a));
     let c = behind_run(Stop::Ink, behind_run(Stop::Space, b));
-    if c.len() != 0 {
-        return SampleLine::Bad;
+    if !c.is_empty() {
+        return Err(NoSample);
     }
     let sequence = text_lines::number_of(before_stop(Stop::Space, a));
     let height = text_lines::number_of(before_stop(Stop::Space, b));

@@ -14,27 +14,13 @@ ghost use Rattle.std.specs.Prelude.{◌≡◌};
 ghost use Rattle.strip.specs.Short.{short_of};
 
 use std::rt::{Env, Files};
-use text::Number;
 use wear::Ask;
 
-// A number of 16 bits, and whether there is one; 0 where there is none.
-#[derive(Drop)]
-pub struct Short {
-    pub ok: bool,
-    pub n: u16,
-}
-
-// A number as one of 16 bits.
-fn short_of(a: Number) -> Short
+// A number as one of 16 bits, if it is one.
+fn short_of(a: Option<u32>) -> Option<u16>
     ensures { result ≡ short_of a }
 {
-    if a.ok & (a.n <= 65535) {
-        return Short {
-            ok: true,
-            n: a.n as u16,
-        };
-    }
-    Short { ok: false, n: 0 }
+    u16::try_from(a?).ok()
 }
 
 // Takes the samples, and shows the strip with a site font on a memory of zeros.
@@ -51,33 +37,40 @@ fn run_on(rt: &(impl Env + Files + Print + Eprint), a: Ask, screen: &[u8], sampl
         run_with(rt, a, &[], screen, samples);
         return;
     }
-    let f = files::load(rt, 9, &mut site);
-    if !f.ok {
+    let Some(n) = files::load(rt, 9, &mut site) else {
         return;
-    }
-    let n = f.n;
+    };
     run_with(rt, a, &site[..n], screen, samples);
 }
 
 // Reads the screen record and the samples, the first and the second argument.
 fn run_for(rt: &(impl Env + Files + Print + Eprint), a: Ask) {
     let mut screen = [0u8; 33];
-    let s = files::load(rt, 1, &mut screen);
-    if !s.ok {
+    let Some(ns) = files::load(rt, 1, &mut screen) else {
         return;
-    }
+    };
     let mut samples = strip_take::sample_room();
-    let t = files::load(rt, 2, &mut samples);
-    if !t.ok {
+    let Some(nt) = files::load(rt, 2, &mut samples) else {
         return;
-    }
-    let ns = s.n;
-    let nt = t.n;
+    };
     if 524288 < nt {
         files::say(rt, b"samples", b"more than 524288 bytes");
         return;
     }
     run_on(rt, a, &screen[..ns], &samples[..nt]);
+}
+
+// The ask of the third to the eighth argument, which the screen gives its depth; none where one is no number of its kind.
+fn asked(rt: &impl Env) -> Option<Ask> {
+    Some(Ask {
+        hours: files::number(rt, 3)?,
+        depth: 0,
+        x: short_of(files::number(rt, 5))?,
+        y: short_of(files::number(rt, 6))?,
+        column: files::number(rt, 4)?,
+        bar: short_of(files::number(rt, 7))?,
+        background: short_of(files::number(rt, 8))?,
+    })
 }
 
 fn main(rt: HostRuntime) {
@@ -90,30 +83,13 @@ fn main(rt: HostRuntime) {
         );
         return;
     }
-    let hours = files::number(&rt, 3);
-    let column = files::number(&rt, 4);
-    let x = short_of(files::number(&rt, 5));
-    let y = short_of(files::number(&rt, 6));
-    let bar = short_of(files::number(&rt, 7));
-    let background = short_of(files::number(&rt, 8));
-    if !(hours.ok & column.ok & x.ok & y.ok & bar.ok & background.ok) {
+    let Some(ask) = asked(&rt) else {
         files::say(
             &rt,
             b"strip",
             b"HOURS, COLUMN, X, Y, BAR and BACKGROUND are numbers, the last four at most 65535",
         );
         return;
-    }
-    run_for(
-        &rt,
-        Ask {
-            hours: hours.n,
-            depth: 0,
-            x: x.n,
-            y: y.n,
-            column: column.n,
-            bar: bar.n,
-            background: background.n,
-        },
-    );
+    };
+    run_for(&rt, ask);
 }

@@ -6,37 +6,35 @@ ghost use Rattle.ring.specs.Kept.{empty_ring, taking, ring_after};
 ghost use Rattle.sample.specs.Line.{line_means, with_line, lines_of, samples_of};
 
 use ring::Ring;
-use sample::{SampleLine, Stop};
+use sample::{Sample, Stop};
+use std::fmt::Display;
 
 // Room for samples, and one byte more, so that a longer file is seen.
 pub fn sample_room() -> [u8; 524289]
     ensures value { result ≡ replicate 524289 0 }
-    ensures value_2 { 524289 ≡ length result }
+    ensures size { 524289 ≡ length result }
 {
     [0; 524289]
 }
 
 // Says why the sample of a line is not taken.
-fn say_line(rt: &impl Eprint, line: u64, why: &[u8]) {
-    let mut text = [0u8; 32];
-    let at = text_code::put(&mut text, 0, b"line ");
-    let n = text_code::put_decimal(&mut text, at, line);
-    files::say(rt, &text[..n], why);
+fn say_line<D: Display + Drop>(rt: &impl Eprint, line: u64, why: D) {
+    let _ = eprintln!(rt; "line {line}: {why}");
 }
 
 // The ring after a sample; where it is refused, its line is said, and why.
-fn take(rt: &impl Eprint, ring: Ring, line: u64, sequence: u16, height: u32) -> Ring
-    ensures { result ≡ (taking ring sequence height).ring }
+fn take(rt: &impl Eprint, ring: Ring, line: u64, s: Sample) -> Ring
+    ensures { result ≡ (taking ring s.sequence s.height).ring }
 {
-    let taken = ring_code::take_sample(ring, sequence, height);
+    let taken = ring_code::take_sample(ring, s.sequence, s.height);
     if taken.number != 0 {
-        if 100 < height {
-            say_line(rt, line, b"refused 27: height above 100");
+        if 100 < s.height {
+            say_line(rt, line, "refused 27: height above 100");
         } else {
             say_line(
                 rt,
                 line,
-                b"refused 27: not 1 to 512 steps ahead of the newest",
+                "refused 27: not 1 to 512 steps ahead of the newest",
             );
         }
     }
@@ -47,21 +45,12 @@ fn take(rt: &impl Eprint, ring: Ring, line: u64, sequence: u16, height: u32) -> 
 fn take_line(rt: &impl Eprint, ring: Ring, number: u64, line: &[u8]) -> Ring
     ensures { result ≡ ring_after ring (with_line (line_means line.now) []) }
 {
-    let means = sample_code::line_means(line);
-    match means {
-        SampleLine::Sample(sequence, height) => {
-            return take(rt, ring, number, sequence, height);
-        }
-        SampleLine::Nothing => {
-            return ring;
-        }
-        SampleLine::Bad => {
-            say_line(
-                rt,
-                number,
-                b"no sample: not a number of at most 65535 and a height",
-            );
-            return ring;
+    match sample_code::line_means(line) {
+        Ok(Some(sample)) => take(rt, ring, number, sample),
+        Ok(None) => ring,
+        Err(no_sample) => {
+            say_line(rt, number, no_sample);
+            ring
         }
     }
 }
@@ -73,6 +62,7 @@ pub fn take_lines(rt: &impl Eprint, text: &[u8]) -> Ring
     let mut ring = ring_code::new_ring();
     let mut number: u64 = 0;
     let mut at = 0;
+    // The step is a line's length, which is not known before.
     while at < text.len() {
         let n = sample_code::run_end(Stop::LineEnd, &text[at..]);
         number += 1;

@@ -1,17 +1,18 @@
 -- Storing blocks of k numbers one behind the other.
-use Prim.Native.Nat.{ℕ, zero, suc, ◌+◌, ◌*◌, ◌/◌, ◌%◌, ◌<◌, ◌≤◌}
+use Prim.Native.Nat.{ℕ, zero, suc, ◌+◌, ◌*◌, ◌<◌, ◌≤◌}
 use mathlib.Core.Path.{◌≡◌, refl, sym, ap, ◌∙◌}
-use mathlib.Core.List.{List, [], ◌∷◌}
+use mathlib.Core.List.{List, ◌++◌}
 use native.Mathlib.Numerals.{add-one}
 use native.Mathlib.Nat.{zero-add, mul-zero, mul-suc, one-mul}
 use native.Mathlib.Omega.{arith}
 use lib.ListN.{length, length-append, set}
 use lib.Seq.{sets, length-sets}
 use Rattle.record.proofs.Stores.{sets_append}
-use Rattle.io.specs.Digits.{hex_digit_ascii}
+use Rattle.io.specs.Digits.{last_digits}
 use Rattle.record.specs.Bytes.{byte_at, u16_at}
 use Rattle.record.specs.Record.{record_at}
 use Rattle.record.specs.declared.Record.{Record}
+use Rattle.text.specs.Text.{letters}
 use Rattle.text.specs.Lines.{joined, record_line, stream_line, hex_byte, word_of}
 
 -- ---- blocks
@@ -67,9 +68,9 @@ pub line_of : (stream : List ℕ) (i at : ℕ) (r : Record) (old new : List ℕ)
 unfolding stream_line
 line_of stream i at r old new p e = e ∙ ap (λ (x : Record). sets old at (record_line x)) p
 
-pub byte_of : (bytes : List ℕ) (i at b x y : ℕ) (old new : List ℕ) → b ≡ byte_at bytes i → x ≡ hex_digit_ascii (b / 16 % 16) → y ≡ hex_digit_ascii (b % 16) → new ≡ sets old at (x ∷ y ∷ 32 ∷ []) → new ≡ sets old at (hex_byte bytes i)
+pub byte_of : (bytes : List ℕ) (i at : ℕ) (old new : List ℕ) → new ≡ sets old at (last_digits 16 2 (byte_at bytes i) ++ letters " ") → new ≡ sets old at (hex_byte bytes i)
 unfolding hex_byte
-byte_of bytes i at b x y old new p q r e = e ∙ (rw (q, r, p))
+byte_of bytes i at old new e = e
 
 pub word_of_lem : (bytes : List ℕ) (i v : ℕ) (old : List ℕ) → v ≡ u16_at bytes (2 * i) → set old i v ≡ sets old (1 * i) (word_of bytes i)
 unfolding word_of

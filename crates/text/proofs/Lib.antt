@@ -1,4 +1,3 @@
-pub mod Between
 pub mod Cases
 pub mod Stored
 pub mod Joined

@@ -1,13 +1,12 @@
 -- Lines, bytes, words and numbers, computed.
 use Prim.Native.Nat.{ℕ}
 use mathlib.Core.Path.{◌≡◌, refl}
-use mathlib.Core.Bool.{true, false}
 use mathlib.Core.List.{List, [], ◌∷◌}
+use Rattle.std.specs.Prelude.{Some, None}
 use Rattle.record.specs.Record.{record_at}
 use Rattle.text.specs.Text.{letters, last_decimal_digits, decimal}
 use Rattle.text.specs.Lines.{joined, record_line, stream_line, point_line, hex_byte, word_of}
 use Rattle.text.specs.Numbers.{digits_behind, number_of}
-use Rattle.text.specs.declared.Number.{Number}
 
 -- two records of a fill
 stream : List ℕ
@@ -36,25 +35,19 @@ unfolding point_line decimal last_decimal_digits
 point_letters = refl
 
 -- ---- numbers
-number : ℕ → Number
-number n = record { ok = true; n = n }
-
-none : Number
-none = record { ok = false; n = 0 }
-
-taken : (number_of (letters "1023") ≡ number 1023)
-    × (number_of (letters "0") ≡ number 0)
-    × (number_of (letters "007") ≡ number 7)
-    × (number_of (letters "999999999") ≡ number 999999999)
-unfolding number number_of digits_behind
+taken : (number_of (letters "1023") ≡ Some 1023)
+    × (number_of (letters "0") ≡ Some 0)
+    × (number_of (letters "007") ≡ Some 7)
+    × (number_of (letters "999999999") ≡ Some 999999999)
+unfolding number_of digits_behind
 taken = (refl, refl, refl, refl)
 
 -- an empty text, ten digits, a letter, a sign, and the letters before 0 and behind 9
-not_taken : (number_of (letters "") ≡ none)
-    × (number_of (letters "0000000000") ≡ none)
-    × (number_of (letters "1x") ≡ none)
-    × (number_of (letters "-1") ≡ none)
-    × (number_of (letters "/") ≡ none)
-    × (number_of (letters "1:") ≡ none)
-unfolding none number_of digits_behind
+not_taken : (number_of (letters "") ≡ None)
+    × (number_of (letters "0000000000") ≡ None)
+    × (number_of (letters "1x") ≡ None)
+    × (number_of (letters "-1") ≡ None)
+    × (number_of (letters "/") ≡ None)
+    × (number_of (letters "1:") ≡ None)
+unfolding number_of digits_behind
 not_taken = (refl, refl, refl, refl, refl, refl)

@@ -3,12 +3,12 @@
 
 mod reasons;
 
-ghost use Rattle.std.specs.Prelude.{◌≡◌, ◌++◌};
+ghost use Rattle.std.specs.Prelude.{◌≡◌, map};
 ghost use Rattle.text.specs.Text.{letters, decimal, Stored};
-ghost use Rattle.text.specs.Refusal.{reason, refusal_line};
+ghost use Rattle.text.specs.Refusal.{reasons, reason, refusal_line};
 ghost use Rattle.text.specs.Lines.{point_line};
 
-use reasons::{REASONS, STARTS};
+use reasons::REASONS;
 
 // Stores bytes at `at`; answers the place behind them.
 pub fn put(text: &mut [u8], at: usize, bytes: &[u8]) -> usize
@@ -17,12 +17,8 @@ pub fn put(text: &mut [u8], at: usize, bytes: &[u8]) -> usize
     if text.len() < at {
         return text.len();
     }
-    let n = record_code::least(bytes.len(), text.len() - at);
-    let mut i = 0;
-    while i < n {
-        text[at + i] = bytes[i];
-        i += 1;
-    }
+    let n = bytes.len().min(text.len() - at);
+    text[at..at + n].copy_from_slice(&bytes[..n]);
     at + n
 }
 
@@ -35,18 +31,15 @@ pub fn put_decimal(text: &mut [u8], at: usize, n: u64) -> usize
     put(text, at, &digits[..k])
 }
 
-// Stores the reason of a refusal, and a line end.
-fn put_reason(text: &mut [u8], at: usize, number: u64) -> usize
-    ensures { Stored text.old at (reason number ++ letters "\n") text.new result }
+// The reason of a refusal, from a table of all; none of a number that is not given.
+fn reason_in(table: &[&'static [u8]; 30], number: u64) -> &'static [u8]
+    requires { map (λ row. row.now) table.now ≡ map letters reasons }
+    ensures { result.now ≡ reason number }
 {
     if 29 < number {
-        return put(text, at, b"\n");
+        return b"";
     }
-    let i = number as usize;
-    let from = STARTS[i];
-    let end = STARTS[i + 1];
-    let reasons: &[u8] = &REASONS;
-    put(text, at, &reasons[from..end])
+    table[number as usize]
 }
 
 // The line of a refusal; answers its bytes.
@@ -58,7 +51,8 @@ pub fn put_refusal(number: u64, place: u64, text: &mut [u8]) -> usize
     let at = put(text, at, b" ");
     let at = put_decimal(text, at, place);
     let at = put(text, at, b": ");
-    put_reason(text, at, number)
+    let at = put(text, at, reason_in(&REASONS, number));
+    put(text, at, b"\n")
 }
 
 // The line of a panel point; answers its bytes.

@@ -1,40 +1,35 @@
 // The reasons of the refusals.
 
-// The reason of 0, of 1 and so on, a line each.
-pub const REASONS: [u8; 1504] = *b"accepted
-screen record not 32 bytes, flag above 1, or a spare byte not zero
-depth not 1, 2, 4, 8 or 16
-rotation above 3
-panel width not a multiple of 8 in 8 to 1024, or height not 1 to 1024
-view width not a multiple of 32 / depth
-main base not a multiple of 4, or image past byte 262144 (13706: 81920)
-window width or height 0, or window outside the view
-window x or width not a multiple of 32 / depth
-window base not a multiple of 4, or image past byte 262144 (13706: 81920)
-list not a multiple of 32 bytes (long form: 48), or over 64 commands
-a command at a depth below 8 (13706: at any depth)
-operation, surface, raster code, colour or pattern out of range, or a spare byte not zero
-rectangle width or height 0
-destination or source outside the surface
-too few host words
-host words left over
-stream buffer shorter than the stream
-memory not 262144 bytes (13706: 81920)
-stream not a multiple of 8 bytes
-number not a listed register nor 10000h
-value outside its field, or start of no operation
-blit outside the memory
-data word when none is due, or none when one is due
-panel point outside the panel
-dword address outside 0 to 65535 (13706: 20479)
-line length below the shown width, not a multiple of 32 / depth, or over 1023 dwords
-sample not 1 to 512 steps ahead or above 100, or age, hours, column, font, digit or place out of range
-operation above 2, or a byte past 31 not zero: no record of 32 bytes
-pattern, or source of a transparent move to a higher address, shares a byte with the destination
-";
-
-// Where each line begins, and where the last one ends.
-pub const STARTS: [usize; 31] = [
-    0, 9, 76, 103, 120, 190, 230, 302, 355, 402, 476, 545, 596, 686, 714, 756, 775, 796, 834, 873,
-    906, 946, 996, 1020, 1072, 1102, 1150, 1235, 1338, 1407, 1504,
+// The reason of 0, of 1 and so on.
+pub const REASONS: [&[u8]; 30] = [
+    b"accepted",
+    b"screen record not 32 bytes, flag above 1, or a spare byte not zero",
+    b"depth not 1, 2, 4, 8 or 16",
+    b"rotation above 3",
+    b"panel width not a multiple of 8 in 8 to 1024, or height not 1 to 1024",
+    b"view width not a multiple of 32 / depth",
+    b"main base not a multiple of 4, or image past byte 262144 (13706: 81920)",
+    b"window width or height 0, or window outside the view",
+    b"window x or width not a multiple of 32 / depth",
+    b"window base not a multiple of 4, or image past byte 262144 (13706: 81920)",
+    b"list not a multiple of 32 bytes (long form: 48), or over 64 commands",
+    b"a command at a depth below 8 (13706: at any depth)",
+    b"operation, surface, raster code, colour or pattern out of range, or a spare byte not zero",
+    b"rectangle width or height 0",
+    b"destination or source outside the surface",
+    b"too few host words",
+    b"host words left over",
+    b"stream buffer shorter than the stream",
+    b"memory not 262144 bytes (13706: 81920)",
+    b"stream not a multiple of 8 bytes",
+    b"number not a listed register nor 10000h",
+    b"value outside its field, or start of no operation",
+    b"blit outside the memory",
+    b"data word when none is due, or none when one is due",
+    b"panel point outside the panel",
+    b"dword address outside 0 to 65535 (13706: 20479)",
+    b"line length below the shown width, not a multiple of 32 / depth, or over 1023 dwords",
+    b"sample not 1 to 512 steps ahead or above 100, or age, hours, column, font, digit or place out of range",
+    b"operation above 2, or a byte past 31 not zero: no record of 32 bytes",
+    b"pattern, or source of a transparent move to a higher address, shares a byte with the destination",
 ];

@@ -1,59 +1,43 @@
 // What the programs write and read besides: a stream as lines of text, bytes in hexadecimal, host words from bytes, and numbers.
 #![tactic(auto)]
 
-ghost use Rattle.std.specs.Prelude.{◌≡◌, ◌+◌, ◌*◌, ◌/◌, ◌%◌, min, length};
+ghost use Rattle.std.specs.Prelude.{◌≡◌, ◌*◌, ◌/◌, ◌^◌, ◌<◌, ◌≤◌, ◌++◌, min, length};
 ghost use Rattle.std.proofs.lemmas.List.Edits.{sets};
 ghost use Rattle.io.specs.Counts.{IsPrefixLen};
-ghost use Rattle.io.specs.Digits.{last_digits, hex_digit_ascii};
-ghost use Rattle.text.specs.Text.{Stored};
+ghost use Rattle.io.specs.Digits.{last_digits};
+ghost use Rattle.text.specs.Text.{letters, Stored};
 ghost use Rattle.text.specs.Lines.{joined, record_line, stream_line, hex_byte, word_of};
 ghost use Rattle.text.specs.Numbers.{number_of};
 
 use record::Record;
-use text::Number;
 use text_code::put;
 
-// The letter of a number's last hexadecimal digit.
-fn letter(x: u32) -> u8
-    ensures { result ≡ hex_digit_ascii (x % 16) }
+// Stores a number that has at most `width` hexadecimal digits, with zeros in front up to so many.
+fn put_hex(text: &mut [u8], at: usize, n: u32, width: usize) -> usize
+    requires { (1 ≤ width) × (width ≤ 16) × (n < 16 ^ width) }
+    ensures { Stored text.old at (last_digits 16 width n) text.new result }
 {
-    let d = x % 16;
-    if d < 10 { 48 + d as u8 } else { 87 + d as u8 }
-}
-
-// The last eight hexadecimal digits of a number.
-fn eight(n: u32) -> [u8; 8]
-    ensures { result ≡ last_digits 16 8 n }
-{
-    let a = n / 16;
-    let b = a / 16;
-    let c = b / 16;
-    let d = c / 16;
-    let e = d / 16;
-    let f = e / 16;
-    let g = f / 16;
-    [
-        letter(g),
-        letter(f),
-        letter(e),
-        letter(d),
-        letter(c),
-        letter(b),
-        letter(a),
-        letter(n),
-    ]
+    let mut digits = [0u8; 16];
+    let k = io::hex(u64::from(n), width, &mut digits);
+    put(text, at, &digits[..k])
 }
 
 // Stores a record's line.
 fn put_line(text: &mut [u8], at: usize, r: Record) -> usize
     ensures { Stored text.old at (record_line r) text.new result }
 {
-    let number = eight(r.number);
-    let value = eight(r.value);
-    let at = put(text, at, &number);
+    let at = put_hex(text, at, r.number, 8);
     let at = put(text, at, b" ");
-    let at = put(text, at, &value);
+    let at = put_hex(text, at, r.value, 8);
     put(text, at, b"\n")
+}
+
+// Stores byte i of bytes: two digits and a space.
+fn put_byte(text: &mut [u8], at: usize, b: u8) -> usize
+    ensures { Stored text.old at (last_digits 16 2 b ++ letters " ") text.new result }
+{
+    let at = put_hex(text, at, u32::from(b), 2);
+    put(text, at, b" ")
 }
 
 // The lines of a stream's records, as many as the text has room for; answers their bytes.
@@ -62,12 +46,10 @@ pub fn put_lines(stream: &[u8], text: &mut [u8]) -> usize
     ensures prefix_len { IsPrefixLen result text.new }
     ensures text_after { text.new ≡ sets text.old 0 (joined (stream_line stream.now) (min (length stream.now / 8) (length text.old / 18))) }
 {
-    let n = record_code::least(stream.len() / 8, text.len() / 18);
-    let mut i = 0;
-    while i < n {
+    let n = (stream.len() / 8).min(text.len() / 18);
+    for i in 0..n {
         let r = record_code::record_at(stream, i);
         put_line(text, 18 * i, r);
-        i += 1;
     }
     18 * n
 }
@@ -78,13 +60,9 @@ pub fn put_bytes(bytes: &[u8], text: &mut [u8]) -> usize
     ensures prefix_len { IsPrefixLen result text.new }
     ensures text_after { text.new ≡ sets text.old 0 (joined (hex_byte bytes.now) (min (length bytes.now) (length text.old / 3))) }
 {
-    let n = record_code::least(bytes.len(), text.len() / 3);
-    let mut i = 0;
-    while i < n {
-        let b = record_code::wide(bytes[i]);
-        let pair = [letter(b / 16), letter(b), b' '];
-        put(text, 3 * i, &pair);
-        i += 1;
+    let n = bytes.len().min(text.len() / 3);
+    for i in 0..n {
+        put_byte(text, 3 * i, bytes[i]);
     }
     3 * n
 }
@@ -95,31 +73,26 @@ pub fn words_of(bytes: &[u8], words: &mut [u16]) -> usize
     ensures prefix_len { IsPrefixLen result words.new }
     ensures words_after { words.new ≡ sets words.old 0 (joined (word_of bytes.now) (min (length bytes.now / 2) (length words.old))) }
 {
-    let n = record_code::least(bytes.len() / 2, words.len());
-    let mut i = 0;
-    while i < n {
+    let n = (bytes.len() / 2).min(words.len());
+    for i in 0..n {
         words[i] = record_code::u16_at(bytes, 2 * i);
-        i += 1;
     }
     n
 }
 
 // The number of one to nine decimal digits.
-pub fn number_of(text: &[u8]) -> Number
+pub fn number_of(text: &[u8]) -> Option<u32>
     ensures { result ≡ number_of text.now }
 {
-    if !((1 <= text.len()) & (text.len() <= 9)) {
-        return Number { ok: false, n: 0 };
+    if text.is_empty() || 9 < text.len() {
+        return None;
     }
-    let mut n: u32 = 0;
-    let mut i = 0;
-    while i < text.len() {
-        let c = record_code::wide(text[i]);
-        if !((48 <= c) & (c <= 57)) {
-            return Number { ok: false, n: 0 };
+    let mut n = 0;
+    for c in text {
+        if !c.is_ascii_digit() {
+            return None;
         }
-        n = 10 * n + (c - 48);
-        i += 1;
+        n = 10 * n + u32::from(*c - b'0');
     }
-    Number { ok: true, n }
+    Some(n)
 }

@@ -18,6 +18,7 @@ fn walk_to(rotation: u32, k: u32, at: Origin, p: u32, q: u32) -> Place
     ensures { result ≡ walk rotation k at p q }
 {
     let start = at.start;
+    // (not the opposite of a quarter turn: a rotation above 3 goes as 3)
     let level = (rotation == 0) | (rotation == 2);
     let along = record_code::choose(level, p, q) as u64;
     let lines = record_code::choose(level, q, p) as u64 * at.offset;

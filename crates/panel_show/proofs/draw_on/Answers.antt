@@ -1,4 +1,4 @@
 use Rattle.panel_show.proofs.draw_on.Goals as goal
 
 pub returns : goal.returns
-returns c = let d = c.draw.ensures in rw c.stream-stream.ensures.value_2 (record { value = d.value; memory_after = d.memory_after })
+returns c = let d = c.draw.ensures in rw c.stream-stream.ensures.size (record { value = d.value; memory_after = d.memory_after })

@@ -1,12 +1,10 @@
-use Rattle.strip.proofs.Shorts.{is_short, no_short, short_number}
-use native.Mathlib.Omega.{arith}
+use Rattle.strip.proofs.Shorts.{no_number, is_short}
+use Rattle.std.specs.Prelude.{is_some}
+use mathlib.Core.Path.{ap, ◌∙◌}
 use Rattle.strip.proofs.short_of.Goals as goal
 
-pub overflow_cast-result : goal.overflow_cast-result
-overflow_cast-result c = omega (arith, short_number c.args.a c.if-a.true)
-
-pub returns-then-a : goal.returns-then-a
-returns-then-a c = is_short _ c.if-a.true
+pub returns-in_err-a : goal.returns-in_err-a
+returns-in_err-a c = c.from_residual.ensures ∙ no_number _ (ap is_some c.in_err-a.was)
 
 pub returns : goal.returns
-returns c = no_short _ c.if-a.false
+returns c = c.ok.ensures.value ∙ is_short _ _ _ c.in_ok-a.was c.try_from.ensures

@@ -3,5 +3,5 @@ use mathlib.Core.Path.{sym}
 use lib.ListN.{length-replicate}
 use Rattle.strip_take.proofs.sample_room.Goals as goal
 
-pub returns-clause-value_2 : goal.returns-clause-value_2
-returns-clause-value_2 c = sym (length-replicate {0} {A = ℕ} 524289 0)
+pub returns-clause-size : goal.returns-clause-size
+returns-clause-size c = sym (length-replicate {0} {A = ℕ} 524289 0)

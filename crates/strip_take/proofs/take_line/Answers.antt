@@ -1,12 +1,13 @@
 use Rattle.sample.proofs.Texts.{sample_taken, nothing_taken, bad_left_out}
-use mathlib.Core.Path.{◌∙◌}
+use Rattle.std.proofs.Common.{Ok}
+use mathlib.Core.Path.{ap, ◌∙◌}
 use Rattle.strip_take.proofs.take_line.Goals as goal
 
-pub returns-in-Sample : goal.returns-in-Sample
-returns-in-Sample g c = c.take.ensures ∙ sample_taken _ _ _ c.line_means-means.ensures _ _ c.in-Sample.is
+pub returns-in-Ok-Some : goal.returns-in-Ok-Some
+returns-in-Ok-Some g c = c.take.ensures ∙ sample_taken _ _ _ c.line_means.ensures _ (c.in-Ok-Some.is ∙ ap Ok c.in-Ok-Some.field-0-is)
 
-pub returns-in-Nothing : goal.returns-in-Nothing
-returns-in-Nothing g c = nothing_taken _ _ _ c.line_means-means.ensures c.in-Nothing.is
+pub returns-in-Ok-None : goal.returns-in-Ok-None
+returns-in-Ok-None g c = nothing_taken _ _ _ c.line_means.ensures (c.in-Ok-None.is ∙ ap Ok c.in-Ok-None.field-0-is)
 
-pub returns-in-Bad : goal.returns-in-Bad
-returns-in-Bad g c = bad_left_out _ _ _ c.line_means-means.ensures c.in-Bad.is
+pub returns-in-Err : goal.returns-in-Err
+returns-in-Err g c = bad_left_out _ _ _ c.line_means.ensures _ c.in-Err.is

@@ -1,33 +1,40 @@
-use Rattle.text.proofs.Numbers.{no_text, number_start, digit_turn, no_digit, digit_range, number_end, more_digits, few_digits}
+use Rattle.text.proofs.Numbers.{no_letters, too_long, number_start, digit_turn, no_digit, digit_range, number_end, more_digits, few_digits}
+use Rattle.text.specs.Numbers.{is_digit, digits_behind}
 use native.Mathlib.Omega.{arith}
-use mathlib.Core.Path.{sym, ◌∙◌}
-use Prim.Native.Nat.{◌-◌}
+use mathlib.Core.Bool.{true}
+use mathlib.Core.Path.{◌≡◌, refl, sym, ap, ◌∙◌}
+use Prim.Native.Nat.{ℕ, ◌+◌, ◌*◌}
+use lib.ListN.{get_or, drop}
 use Rattle.text_lines.proofs.number_of.Goals as goal
+use Rattle.text_lines.proofs.number_of.Goals.{then-is_empty-via-then-is_empty, then-is_empty-via-else-is_empty+then-text-gt9}
 
-pub returns-then-not-text : goal.returns-then-not-text
-returns-then-not-text c = no_text _ (c.if-not-text.true)
+pub returns-then-is_empty : goal.returns-then-is_empty
+returns-then-is_empty c = elim c.then-is_empty.branch [ then-is_empty-via-then-is_empty w ↦ no_letters _ (sym c.is_empty.ensures ∙ w.if-is_empty.true) | then-is_empty-via-else-is_empty+then-text-gt9 w ↦ too_long _ w.if-text-gt9.true ]
 
-pub loop-i-init : goal.loop-i-init
-loop-i-init c = let h = number_start _ c.if-not-text.false in (omega arith, (h.0, (omega arith, h.1)))
+pub loop-c-init : goal.loop-c-init
+loop-c-init c = record { digits = omega arith; few = omega arith; rest = number_start _ (sym c.is_empty.ensures ∙ c.if-is_empty.false) c.if-text-gt9.false }
 
-pub returns-then-not-c : goal.returns-then-not-c
-returns-then-not-c c = let l = c.loop-i in sym (l.invariant.1.1.1 ∙ no_digit _ _ l.n l.i c.wide-c.ensures.0 c.loop-i-test.true (c.if-not-c.true))
+pub returns-then-not-is_ascii_digit : goal.returns-then-not-is_ascii_digit
+returns-then-not-is_ascii_digit c = let l = c.loop-c in sym (l.invariant.rest ∙ no_digit _ (get_or c.args.text.now l.c-index 0) l.n l.c-index refl c.loop-c-test.true (sym c.is_ascii_digit.ensures.value ∙ c.if-not-is_ascii_digit.true))
 
 pub overflow_mul-n : goal.overflow_mul-n
-overflow_mul-n c = let l = c.loop-i in omega (arith, few_digits l.n l.i l.invariant.1.1.0 (omega arith))
-
-pub overflow_sub-n : goal.overflow_sub-n
-overflow_sub-n c = (digit_range _ c.if-not-c.false).0
+overflow_mul-n c = let l = c.loop-c in omega (arith, few_digits l.n l.c-index l.invariant.digits (omega arith))
 
 pub overflow_add-n : goal.overflow_add-n
-overflow_add-n c = let l = c.loop-i in let d = digit_range c.wide-c.result c.if-not-c.false in omega (arith, few_digits l.n l.i l.invariant.1.1.0 (omega arith))
+overflow_add-n c = let l = c.loop-c in
+    let d = digit_range (get_or c.args.text.now l.c-index 0) (sym c.is_ascii_digit.ensures.value ∙ c.if-not-is_ascii_digit.false) in
+    omega (arith, few_digits l.n l.c-index l.invariant.digits (omega arith))
 
-pub loop-i-preserved : goal.loop-i-preserved
-loop-i-preserved c = let l = c.loop-i in
-    let v = c.wide-c.result in
-    let e = c.if-not-c.false in
+pub loop-c-preserved : goal.loop-c-preserved
+loop-c-preserved c = let l = c.loop-c in
+    let v = get_or c.args.text.now l.c-index 0 in
+    let e : is_digit v ≡ true = sym c.is_ascii_digit.ensures.value ∙ c.if-not-is_ascii_digit.false in
     let d = digit_range v e in
-    (omega arith, (l.invariant.1.0, (more_digits l.n (v - 48) l.i l.invariant.1.1.0 (omega arith), l.invariant.1.1.1 ∙ digit_turn _ v l.n l.i c.wide-c.ensures.0 c.loop-i-test.true e)))
+    record {
+      digits = more_digits l.n c.from.result l.c-index l.invariant.digits (omega arith);
+      few = l.invariant.few;
+      rest = l.invariant.rest ∙ digit_turn _ v l.n l.c-index refl c.loop-c-test.true e ∙ ap (λ (x : ℕ). digits_behind (10 * l.n + x) (drop (l.c-index + 1) c.args.text.now)) (sym c.from.ensures);
+    }
 
 pub returns : goal.returns
-returns c = let l = c.loop-i in sym (l.invariant.1.1.1 ∙ number_end _ l.n l.i c.loop-i-test.false)
+returns c = let l = c.loop-c in sym (l.invariant.rest ∙ number_end _ l.n l.c-index c.loop-c-test.false)

@@ -6,6 +6,3 @@ use Rattle.text_lines.proofs.put_bytes.Given as goal
 
 abbrev pub invariant-loop-i : goal.invariant-loop-i
 invariant-loop-i l = ((l.n ≤ length l.bytes) × (3 * l.n ≤ length l.initial.text)) × Filling (hex_byte l.bytes) l.n l.initial.text l.text l.i
-
-abbrev pub decreases-loop-i : goal.decreases-loop-i
-decreases-loop-i l = l.n - l.i

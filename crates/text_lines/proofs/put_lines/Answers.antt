@@ -15,7 +15,7 @@ loop-i-preserved c = let stream = c.args.stream.now in let l = c.loop-i.text in 
 
 pub returns : goal.returns
 returns c = record {
-  value = ap (λ x. 18 * x) c.least-n.ensures;
+  value = ap (λ x. 18 * x) c.min-n.ensures;
   prefix_len = counts _ _ (omega arith);
-  text_after = fill_end _ _ _ _ _ _ c.loop-i.invariant.1 c.loop-i-test.false c.least-n.ensures;
+  text_after = fill_end _ _ _ _ _ _ c.loop-i.invariant.1 c.loop-i-test.false c.min-n.ensures;
 }

@@ -6,6 +6,3 @@ use Rattle.text_lines.proofs.put_lines.Given as goal
 
 abbrev pub invariant-loop-i : goal.invariant-loop-i
 invariant-loop-i l = ((8 * l.n ≤ length l.stream) × (18 * l.n ≤ length l.initial.text)) × Filling (stream_line l.stream) l.n l.initial.text l.text l.i
-
-abbrev pub decreases-loop-i : goal.decreases-loop-i
-decreases-loop-i l = l.n - l.i

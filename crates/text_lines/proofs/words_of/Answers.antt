@@ -13,7 +13,7 @@ loop-i-preserved c = let bytes = c.args.bytes.now in let l = c.loop-i.words in l
 
 pub returns : goal.returns
 returns c = record {
-  value = c.least-n.ensures;
+  value = c.min-n.ensures;
   prefix_len = counts _ _ (omega arith);
-  words_after = fill_end _ _ _ _ _ _ c.loop-i.invariant.1 c.loop-i-test.false c.least-n.ensures;
+  words_after = fill_end _ _ _ _ _ _ c.loop-i.invariant.1 c.loop-i-test.false c.min-n.ensures;
 }
