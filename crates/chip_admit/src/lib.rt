@@ -65,6 +65,7 @@ fn screen_after(s: ScreenValues, number: u32, value: u32) -> ScreenValues
 }
 
 // The blit registers once a value is written.
+#[tactic(auto, unfolding(chip::specs::Register::blit_after))]
 pub fn blit_after(b: Registers, number: u32, value: u32) -> Registers
     ensures { result ≡ blit_after b number value }
 {
@@ -115,6 +116,7 @@ fn source_fits(b: Registers) -> bool
 }
 
 // Refusal 21: whether the model has an operation for the start.
+#[tactic(auto, unfolding(chip::specs::Start::startable))]
 fn is_startable(b: Registers) -> bool
     ensures { result ≡ startable b }
 {
@@ -213,6 +215,7 @@ pub fn refusal_of(memory: u64, c: Chip, r: Record) -> Result<(), Refusal>
 }
 
 // What is due after a register write: a started write waits for its first word.
+#[tactic(auto, unfolding(chip::specs::Admit::due_of))]
 fn due_of(b: Registers, r: Record) -> Due
     ensures { result ≡ due_of b r }
 {
@@ -223,6 +226,7 @@ fn due_of(b: Registers, r: Record) -> Due
 }
 
 // The chip after a register write that is not refused.
+#[tactic(auto, unfolding(chip::specs::Admit::chip_after))]
 pub fn register_after(c: Chip, r: Record) -> Chip
     requires { is_data r ≡ false }
     ensures { result ≡ chip_after c r }
@@ -234,6 +238,7 @@ pub fn register_after(c: Chip, r: Record) -> Chip
 }
 
 // All registers are 0, and no data is due.
+#[tactic(auto, unfolding(chip::specs::Play::new_chip))]
 pub fn new_chip() -> Chip
     ensures { result ≡ new_chip }
 {
