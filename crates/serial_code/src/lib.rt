@@ -16,6 +16,7 @@ use screen::MEMORY_SIZE;
 use serial::{Answer, Fed, Player, Taking};
 
 // Records of so many that a run takes: all, or those before the refused one.
+#[tactic(auto, unfolding(chip::specs::Play::running_of, refusal::specs::Number::number_at, refusal::specs::Number::place_at))]
 fn taken_by(r: Run, count: usize) -> usize
     ensures { result ≡ cond (eqb (running_of r).number 0) count (running_of r).place }
 {
@@ -26,6 +27,7 @@ fn taken_by(r: Run, count: usize) -> usize
 }
 
 // The number of a run's refusal, or 0: the C interface has it so in a player.
+#[tactic(auto, unfolding(chip::specs::Play::running_of, refusal::specs::Number::number_at))]
 fn number_of(r: Run) -> u32
     ensures { result ≡ (running_of r).number }
 {
@@ -97,6 +99,7 @@ fn take_bytes(p: Player, block: &[u8], memory: &mut [u8]) -> Player
 }
 
 // A refusal's answer; number 0 and place 0 for a taken block.
+#[tactic(auto, unfolding(serial::specs::Serial::answer_of))]
 fn answer_with(number: u32, place: u64) -> Answer
     ensures { result ≡ answer_of (refused_by number place) }
 {
@@ -153,6 +156,7 @@ pub fn take_block(p: Player, block: &[u8], memory: &mut [u8]) -> Fed
 }
 
 // The player that keeps an answer with this number and place.
+#[tactic(auto, unfolding(serial::specs::Serial::keeping))]
 fn keep(p: Player, number: u32, place: u64) -> Player
     ensures { result ≡ keeping p number place }
 {
@@ -180,6 +184,7 @@ fn end_of(p: Player) -> Player
 }
 
 // Ends the stream: the player after it, and its answer.
+#[tactic(auto, unfolding(serial::specs::Serial::fed_of))]
 pub fn take_end(p: Player) -> Fed
     ensures { result ≡ fed_of (ended_player p) (end_answer p) }
 {

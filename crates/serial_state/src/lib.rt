@@ -11,6 +11,7 @@ use chip::{Chip, Due, Registers};
 use serial::{Player, Taking};
 
 // A player that has read nothing.
+#[tactic(auto, unfolding(chip::specs::Play::new_chip, serial::specs::State::player_of, serial::specs::State::new_player))]
 pub fn new_player() -> Player
     ensures { result ≡ new_player }
 {

@@ -12,7 +12,3 @@ returns-in-Some c =
     let e = c.in-Some.refused in
     let p = number_positive e.refusal in
     rw (c.in-Some.is, ne_eqb (number e.refusal) 0 (λ z. omega (arith, p, z))) refl
-
-pub returns-in-None : goal.returns-in-None
-unfolding running_of number_at place_at
-returns-in-None c = rw c.in-None.is refl
