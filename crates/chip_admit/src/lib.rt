@@ -65,6 +65,7 @@ fn screen_after(s: ScreenValues, number: u32, value: u32) -> ScreenValues
 }
 
 // The blit registers once a value is written.
+#[tactic(auto, unfolding(chip::specs::Register::blit_after))]
 pub fn blit_after(b: Registers, number: u32, value: u32) -> Registers
     ensures { result ≡ blit_after b number value }
 {
@@ -115,6 +116,7 @@ fn source_fits(b: Registers) -> bool
 }
 
 // Refusal 21: whether the model has an operation for the start.
+#[tactic(auto, unfolding(chip::specs::Start::startable))]
 fn is_startable(b: Registers) -> bool
     ensures { result ≡ startable b }
 {
@@ -169,6 +171,7 @@ pub fn starts_blit(r: Record) -> bool
 }
 
 // Why a register write is refused, in a memory of so many bytes.
+#[tactic(auto, unfolding(chip::specs::Admit::refusal, chip::specs::Admit::admit_rows, record::specs::Checks::first_of, refusal::specs::Number::number_of, refusal::specs::Number::number))]
 fn register_refusal(memory: u64, c: Chip, r: Record) -> Result<(), Refusal>
     requires { is_data r ≡ false }
     ensures { number_of result ≡ refusal memory c r }
@@ -197,6 +200,7 @@ fn register_refusal(memory: u64, c: Chip, r: Record) -> Result<(), Refusal>
 }
 
 // Why a record is refused, in a memory of so many bytes.
+#[tactic(auto, unfolding(chip::specs::Admit::refusal, chip::specs::Admit::admit_rows, record::specs::Checks::first_of, refusal::specs::Number::number_of, refusal::specs::Number::number, chip::specs::Register::listed, chip::specs::Register::fits))]
 pub fn refusal_of(memory: u64, c: Chip, r: Record) -> Result<(), Refusal>
     ensures { number_of result ≡ refusal memory c r }
 {
@@ -213,6 +217,7 @@ pub fn refusal_of(memory: u64, c: Chip, r: Record) -> Result<(), Refusal>
 }
 
 // What is due after a register write: a started write waits for its first word.
+#[tactic(auto, unfolding(chip::specs::Admit::due_of))]
 fn due_of(b: Registers, r: Record) -> Due
     ensures { result ≡ due_of b r }
 {
@@ -223,6 +228,7 @@ fn due_of(b: Registers, r: Record) -> Due
 }
 
 // The chip after a register write that is not refused.
+#[tactic(auto, unfolding(chip::specs::Admit::chip_after))]
 pub fn register_after(c: Chip, r: Record) -> Chip
     requires { is_data r ≡ false }
     ensures { result ≡ chip_after c r }
@@ -234,6 +240,7 @@ pub fn register_after(c: Chip, r: Record) -> Chip
 }
 
 // All registers are 0, and no data is due.
+#[tactic(auto, unfolding(chip::specs::Play::new_chip))]
 pub fn new_chip() -> Chip
     ensures { result ≡ new_chip }
 {

@@ -56,6 +56,7 @@ fn from_by(b: Registers) -> From
 }
 
 // The blit that the registers name.
+#[tactic(auto, unfolding(chip::specs::Start::job_of))]
 fn job_of(b: Registers) -> Job
     ensures { result ≡ job_of b }
 {

@@ -5,25 +5,36 @@ ghost use Rattle.std.specs.Prelude.{◌≡◌, cond, eqb, length};
 ghost use Rattle.record.specs.Record.{records_of};
 ghost use Rattle.screen.specs.Screen.{memory_size};
 ghost use Rattle.screen.specs.Narrow.{Narrow};
-ghost use Rattle.chip.specs.Play.{refused_by};
+ghost use Rattle.chip.specs.Play.{refused_by, running_of};
 ghost use Rattle.serial.specs.State.{state_of, player_of};
 ghost use Rattle.serial.specs.Serial.{bytes_taken, kept_by, feeding, keeping, ended_player, end_answer, answer_of, fed_of};
 ghost use Rattle.serial.specs.Taking.{stage_of, records_taken};
 
 use chip::Run;
+use refusal::Refusal;
+use screen::MEMORY_SIZE;
 use serial::{Answer, Fed, Player, Taking};
 
-// Bytes of display memory of the S1D13A05.
-const MEMORY_SIZE: u64 = 262144;
-
 // Records of so many that a run takes: all, or those before the refused one.
+#[tactic(auto, unfolding(chip::specs::Play::running_of, refusal::specs::Number::number_at, refusal::specs::Number::place_at))]
 fn taken_by(r: Run, count: usize) -> usize
-    ensures { result ≡ cond (eqb r.number 0) count r.place }
+    ensures { result ≡ cond (eqb (running_of r).number 0) count (running_of r).place }
 {
-    if r.number == 0 {
-        return count;
+    match r.refused {
+        Some(refused) => refused.place as usize,
+        None => count,
     }
-    r.place as usize
+}
+
+// The number of a run's refusal, or 0: the C interface has it so in a player.
+#[tactic(auto, unfolding(chip::specs::Play::running_of, refusal::specs::Number::number_at))]
+fn number_of(r: Run) -> u32
+    ensures { result ≡ (running_of r).number }
+{
+    match r.refused {
+        Some(refused) => refused.refusal.number(),
+        None => 0,
+    }
 }
 
 // The whole records of bytes, up to the first that is refused: admitted, then applied.
@@ -32,14 +43,13 @@ fn take_records(start: Taking, bytes: &[u8], memory: &mut [u8]) -> Taking
     ensures { (stage_of result memory.new ≡ records_taken memory_size (stage_of start memory.old) (records_of bytes.now)) × Narrow result.chip.screen }
 {
     let first = start.chip;
-    let r = chip_admit::check(MEMORY_SIZE, first, bytes);
-    let taken = taken_by(r, bytes.len() / 8);
+    let run = chip_admit::check(MEMORY_SIZE, first, bytes);
+    let taken = taken_by(run, bytes.len() / 8);
     chip_code::perform_all(first, bytes, taken, memory);
-    let chip = r.chip;
     Taking {
-        chip,
+        chip: run.chip,
         count: serial_state::more_records(start.count, taken as u64),
-        number: r.number,
+        number: number_of(run),
     }
 }
 
@@ -89,6 +99,7 @@ fn take_bytes(p: Player, block: &[u8], memory: &mut [u8]) -> Player
 }
 
 // A refusal's answer; number 0 and place 0 for a taken block.
+#[tactic(auto, unfolding(serial::specs::Serial::answer_of))]
 fn answer_with(number: u32, place: u64) -> Answer
     ensures { result ≡ answer_of (refused_by number place) }
 {
@@ -124,11 +135,11 @@ pub fn take_block(p: Player, block: &[u8], memory: &mut [u8]) -> Fed
         return Fed { player: p, answer };
     }
     if memory.len() as u64 != MEMORY_SIZE {
-        let answer = answer_with(18, 0);
+        let answer = answer_with(Refusal::MemoryLength.number(), 0);
         return Fed { player: p, answer };
     }
     if 64 < block.len() {
-        let answer = answer_with(32, 0);
+        let answer = answer_with(Refusal::Block.number(), 0);
         return Fed { player: p, answer };
     }
     if serial_words::is_words(p, block) {
@@ -145,6 +156,7 @@ pub fn take_block(p: Player, block: &[u8], memory: &mut [u8]) -> Fed
 }
 
 // The player that keeps an answer with this number and place.
+#[tactic(auto, unfolding(serial::specs::Serial::keeping))]
 fn keep(p: Player, number: u32, place: u64) -> Player
     ensures { result ≡ keeping p number place }
 {
@@ -163,15 +175,16 @@ fn end_of(p: Player) -> Player
         return p;
     }
     if p.held != 0 {
-        return keep(p, 19, 0);
+        return keep(p, Refusal::StreamLength.number(), 0);
     }
     if p.due != 0 {
-        return keep(p, 23, p.count);
+        return keep(p, Refusal::DataWord.number(), p.count);
     }
     keep(p, 0, 0)
 }
 
 // Ends the stream: the player after it, and its answer.
+#[tactic(auto, unfolding(serial::specs::Serial::fed_of))]
 pub fn take_end(p: Player) -> Fed
     ensures { result ≡ fed_of (ended_player p) (end_answer p) }
 {

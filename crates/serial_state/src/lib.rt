@@ -7,17 +7,17 @@ ghost use Rattle.record.specs.Bytes.{byte_at, over};
 ghost use Rattle.screen.specs.Narrow.{Narrow};
 ghost use Rattle.serial.specs.State.{most_records, held_by, chip_of, player_of, new_player};
 
-use chip::{Chip, Due};
+use chip::{Chip, Due, Registers};
 use serial::{Player, Taking};
 
 // A player that has read nothing.
+#[tactic(auto, unfolding(chip::specs::Play::new_chip, serial::specs::State::player_of, serial::specs::State::new_player))]
 pub fn new_player() -> Player
     ensures { result ≡ new_player }
 {
-    let chip = chip_admit::new_chip();
     Player {
         values: [0; 6],
-        blit: chip.blit,
+        blit: Registers::default(),
         due: 0,
         line: 0,
         word: 0,

@@ -2,18 +2,9 @@ use mathlib.Core.Path.{sym, ap, ◌∙◌}
 use mathlib.Core.Bool.{Bool, cond}
 use Rattle.refusal.specs.Number.{number, number_of}
 use Rattle.chip.specs.Start.{startable, within}
-use Rattle.chip_admit.proofs.Refusals.{unlisted, no_field, plain, not_startable, not_within, startable_within}
+use Rattle.chip_admit.proofs.Refusals.{plain, not_startable, not_within, startable_within}
 use Rattle.chip_admit.proofs.register_refusal.Goals.{then-starts_blit+else-not-is_startable+else-not-is_within, else-starts_blit}
 use Rattle.chip_admit.proofs.register_refusal.Goals as goal
-
-pub returns-then-is_listed : goal.returns-then-is_listed
-unfolding number_of number
-returns-then-is_listed c = let a = c.args in
-    no_field a.memory a.c a.r (sym c.is_listed.ensures ∙ c.if-is_listed.true) (sym c.in_field.ensures ∙ c.if-not-in_field.true)
-
-pub returns-else-is_listed : goal.returns-else-is_listed
-unfolding number_of number
-returns-else-is_listed c = let a = c.args in unlisted a.memory a.c a.r (sym c.is_listed.ensures ∙ c.if-is_listed.false)
 
 pub returns-then-not-is_startable : goal.returns-then-not-is_startable
 unfolding number_of number

@@ -1,6 +1,10 @@
-use mathlib.Core.Path.{sym, ◌∙◌}
+use mathlib.Core.Path.{sym, ap, ◌∙◌}
+use Prim.Native.Nat.{ℕ}
 use native.Mathlib.Omega.{arith}
 use Rattle.screen.specs.Screen.{memory_size}
+use Rattle.refusal.specs.Number.{number}
+use Rattle.chip.specs.Play.{refused_by}
+use Rattle.serial.specs.Serial.{answer_of}
 use Rattle.serial.proofs.Players.{block_repeats, block_18, block_32, block_taken}
 use Rattle.serial.proofs.Ways.{fed_same, fed_bytes}
 use Rattle.serial_code.proofs.take_block.Goals as goal
@@ -11,13 +15,15 @@ returns-then-p-ne0 c = let a = c.args in
     record { value = r.0; memory_after = r.1 }
 
 pub returns-then-memory-ne-MEMORY_SIZE : goal.returns-then-memory-ne-MEMORY_SIZE
+unfolding number
 returns-then-memory-ne-MEMORY_SIZE c = let a = c.args in
-    let r = fed_same _ a.p _ _ a.memory.now (block_18 memory_size a.p a.block.now a.memory.now c.if-p-ne0.false c.if-memory-ne-MEMORY_SIZE.true) c.answer_with-answer.ensures in
+    let r = fed_same _ a.p _ _ a.memory.now (block_18 memory_size a.p a.block.now a.memory.now c.if-p-ne0.false c.if-memory-ne-MEMORY_SIZE.true) (c.answer_with-answer.ensures ∙ ap (λ (n : ℕ). answer_of (refused_by n 0)) c.number.ensures) in
     record { value = r.0; memory_after = r.1 }
 
 pub returns-then-block-gt64 : goal.returns-then-block-gt64
+unfolding number
 returns-then-block-gt64 c = let a = c.args in
-    let r = fed_same _ a.p _ _ a.memory.now (block_32 memory_size a.p a.block.now a.memory.now c.if-p-ne0.false c.if-memory-ne-MEMORY_SIZE.false (λ l. omega arith)) c.answer_with-answer-then-block-gt64.ensures in
+    let r = fed_same _ a.p _ _ a.memory.now (block_32 memory_size a.p a.block.now a.memory.now c.if-p-ne0.false c.if-memory-ne-MEMORY_SIZE.false (λ l. omega arith)) (c.answer_with-answer-then-block-gt64.ensures ∙ ap (λ (n : ℕ). answer_of (refused_by n 0)) c.number-then-block-gt64.ensures) in
     record { value = r.0; memory_after = r.1 }
 
 pub take_words-next-requires : goal.take_words-next-requires
