@@ -9,8 +9,9 @@ ghost use Rattle.std.specs.Prelude.{◌≡◌, ◌≤◌, length, replicate};
 ghost use Rattle.compiler.specs.Compile.{compiling_of};
 ghost use Rattle.script.specs.Steps.{form_on, desk_after, words_after, stream_patched, keeps, kept_after, memory_after, compiled_after, stream_after, played_after, memory_played};
 
-use chip::Played;
 use compiler::Compiled;
+use refusal::Refused;
+use screen::ScreenValues;
 
 // The steps that leave something: the first four letters of a line as a number, the first letter lowest. They stay numbers, since the
 // functions' contracts and the definitions of script name them so.
@@ -137,11 +138,11 @@ fn form_on(desk: &[u8]) -> u32
 // Compiles what is on the desk, at a step that says so, for the S1D13A05 or the older S1D13706; else the old answer.
 pub fn compile(
     k: u32,
-    old: Compiled,
+    old: Result<Compiled, Refused>,
     desk: &[u8; 92],
     words: &[u16; 1001],
     stream: &mut [u8; 16384],
-) -> Compiled
+) -> Result<Compiled, Refused>
     ensures value { result ≡ compiled_after k old desk.now words.now (length stream.old) }
     ensures stream_after { stream.new ≡ stream_after k desk.now words.now stream.old }
 {
@@ -161,23 +162,24 @@ pub fn compile(
 }
 
 // The stream's length in bytes; 0 where there is none.
-pub fn size_of(c: Compiled) -> u64
+#[tactic(auto, unfolding(compiler::specs::Compile::compiling_of))]
+pub fn size_of(c: Result<Compiled, Refused>) -> u64
     ensures { result ≡ (compiling_of c).length }
 {
     match c {
-        Compiled::Accepted(size, depth, rotation, flag) => size,
-        Compiled::Refused(n, place) => 0,
+        Ok(compiled) => compiled.length,
+        Err(_) => 0,
     }
 }
 
 // Plays the stream over the memory, at a step that says so; else the old answer.
 pub fn play(
     k: u32,
-    old: Played,
-    c: Compiled,
+    old: Result<ScreenValues, Refused>,
+    c: Result<Compiled, Refused>,
     stream: &[u8; 16384],
     memory: &mut [u8; 262144],
-) -> Played
+) -> Result<ScreenValues, Refused>
     ensures value { result ≡ played_after k old c stream.now memory.old }
     ensures memory_after { memory.new ≡ memory_played k c stream.now memory.old }
 {
