@@ -5,8 +5,8 @@
 
 ghost use Rattle.io.specs.Counts.{IsPrefixLen};
 
-use chip::Played;
 use compiler::Compiled;
+use refusal::Refusal;
 use script::Tally;
 use std::io::Read;
 
@@ -72,8 +72,14 @@ fn run(rt: &impl Print, script: &[u8]) {
     let mut stream = [0u8; 16384];
     let mut memory = script_steps::zeros();
     let mut kept = script_steps::zeros();
-    let mut compiled = Compiled::Refused(0, 0);
-    let mut played = Played::Refused(0, 0);
+    // Before the first step: an empty stream, and nothing played.
+    let mut compiled = Ok(Compiled {
+        length: 0,
+        depth: 0,
+        rotation: 0,
+        flag: 0,
+    });
+    let mut played = Err(Refusal::StreamLength.into());
     let mut tally = Tally {
         example: true,
         all: true,

@@ -5,9 +5,10 @@ ghost use Rattle.std.specs.Prelude.{◌≡◌};
 ghost use Rattle.compiler.specs.Compile.{compiling_of};
 ghost use Rattle.script.specs.Verdict.{is_answer, is_played, is_record, has_records, display_on, is_colour, is_point, same_bytes, is_setting, is_comment, holds, judged};
 
-use chip::Played;
 use compiler::Compiled;
-use reader::{Display, PointAnswer};
+use reader::{Display, Point};
+use refusal::{Refusal, Refused};
+use screen::ScreenValues;
 use script::Tally;
 
 // The steps that only compare, and the end of an example.
@@ -22,34 +23,33 @@ const SAME: u32 = 0x656D6173;
 pub const DONE: u32 = 0x656E6F64;
 
 // The number that an answer of compiling has.
-fn number_of(c: Compiled) -> u32
+#[tactic(auto, unfolding(compiler::specs::Compile::compiling_of))]
+fn number_of(c: Result<Compiled, Refused>) -> u32
     ensures { result ≡ (compiling_of c).number }
 {
     match c {
-        Compiled::Accepted(size, depth, rotation, flag) => 0,
-        Compiled::Refused(n, place) => n,
+        Ok(_) => 0,
+        Err(refused) => refused.refusal.number(),
     }
 }
 
 // Whether compiling gave the line's number.
-fn is_answer(line: &[u8], c: Compiled) -> bool
+fn is_answer(line: &[u8], c: Result<Compiled, Refused>) -> bool
     ensures { result ≡ is_answer line.now c }
 {
     number_of(c) == script_code::number(line, 0)
 }
 
 // Whether playing was not refused.
-fn is_played(p: Played) -> bool
+#[tactic(auto, unfolding(script::specs::Verdict::is_played))]
+fn is_played(p: Result<ScreenValues, Refused>) -> bool
     ensures { result ≡ is_played p }
 {
-    match p {
-        Played::Accepted(values) => true,
-        Played::Refused(n, place) => false,
-    }
+    p.is_ok()
 }
 
 // Whether the line's record is in the stream, and is the line's register at the line's value.
-fn is_record(line: &[u8], c: Compiled, stream: &[u8; 16384]) -> bool
+fn is_record(line: &[u8], c: Result<Compiled, Refused>, stream: &[u8; 16384]) -> bool
     ensures { result ≡ is_record line.now c stream.now }
 {
     let at = 8 * script_code::number(line, 0) as usize;
@@ -60,27 +60,27 @@ fn is_record(line: &[u8], c: Compiled, stream: &[u8; 16384]) -> bool
 }
 
 // Whether the stream has the line's number of records.
-fn has_records(line: &[u8], c: Compiled) -> bool
+fn has_records(line: &[u8], c: Result<Compiled, Refused>) -> bool
     ensures { result ≡ has_records line.now c }
 {
     script_steps::size_of(c) == 8 * script_code::number(line, 0) as u64
 }
 
 // The panel as compiling sets it, in the size that the desk has.
-fn display_on(c: Compiled, desk: &[u8; 92]) -> Display
+fn display_on(c: Result<Compiled, Refused>, desk: &[u8; 92]) -> Display
     ensures { result ≡ display_on c desk.now }
 {
     let width = script_code::number_at(desk, 4) % 65536;
     let height = script_code::number_at(desk, 6) % 65536;
     match c {
-        Compiled::Accepted(size, depth, rotation, flag) => Display {
-            depth,
-            rotation,
-            flag,
+        Ok(compiled) => Display {
+            depth: compiled.depth,
+            rotation: compiled.rotation,
+            flag: compiled.flag,
             width,
             height,
         },
-        Compiled::Refused(n, place) => Display {
+        Err(_) => Display {
             depth: 0,
             rotation: 0,
             flag: 0,
@@ -91,28 +91,28 @@ fn display_on(c: Compiled, desk: &[u8; 92]) -> Display
 }
 
 // Whether a point shows the line's colour.
-fn is_colour(line: &[u8], a: PointAnswer) -> bool
+fn is_colour(line: &[u8], a: Result<Point, Refusal>) -> bool
     ensures { result ≡ is_colour line.now a }
 {
     let colour = script_code::number(line, 2);
     match a {
-        PointAnswer::Shown(c, address, bit) => c as u32 == colour,
-        PointAnswer::Refused(n) => false,
+        Ok(point) => point.colour as u32 == colour,
+        Err(_) => false,
     }
 }
 
 // Whether the line's panel point, after playing, shows the line's colour.
-fn is_point(line: &[u8], c: Compiled, p: Played, desk: &[u8; 92], memory: &[u8; 262144]) -> bool
+fn is_point(line: &[u8], c: Result<Compiled, Refused>, p: Result<ScreenValues, Refused>, desk: &[u8; 92], memory: &[u8; 262144]) -> bool
     ensures { result ≡ is_point line.now c p desk.now memory.now }
 {
     match p {
-        Played::Accepted(values) => {
+        Ok(values) => {
             let display = display_on(c, desk);
             let x = script_code::number(line, 0);
             let y = script_code::number(line, 1);
             is_colour(line, reader_code::read_point(display, values, x, y, memory))
         }
-        Played::Refused(n, place) => false,
+        Err(_) => false,
     }
 }
 
@@ -152,8 +152,8 @@ fn is_comment(line: &[u8]) -> bool
 pub fn check_line(
     k: u32,
     line: &[u8],
-    c: Compiled,
-    p: Played,
+    c: Result<Compiled, Refused>,
+    p: Result<ScreenValues, Refused>,
     desk: &[u8; 92],
     stream: &[u8; 16384],
     memory: &[u8; 262144],
