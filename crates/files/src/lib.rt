@@ -9,6 +9,7 @@ ghost use Rattle.io.specs.Counts.{IsPrefixLen};
 ghost use Rattle.files.specs.System.{YesOrNo, LoadedBytes, LoadedWords, LoadedMemory, GivenNumber};
 
 use reason::{Failure, Line};
+use refusal::Refused;
 use std::env::FillError;
 use std::fs;
 use std::io::{Error, Read, Result};
@@ -84,9 +85,10 @@ pub fn print(rt: &(impl Print + Eprint), text: &[u8]) -> bool
 }
 
 // Writes the line of a refusal, at most 128 bytes.
-pub fn print_refusal(rt: &(impl Print + Eprint), number: u64, place: u64) {
+pub fn print_refusal(rt: &(impl Print + Eprint), why: Refused) {
     let mut line = [0u8; 128];
-    let n = text_code::put_refusal(number, place, &mut line);
+    let number = why.refusal.number() as u64;
+    let n = text_code::put_refusal(number, why.place, &mut line);
     print(rt, &line[..n]);
 }
 

@@ -10,7 +10,7 @@ ghost use Rattle.text.specs.Lines.{joined};
 ghost use Rattle.text.specs.Text.{Stored};
 ghost use Rattle.picture.specs.Picture.{highest, picture_kind, picture_head, pixel_size, from_five, from_six, pixel_bytes, point_bytes, pixels_in, answer_line};
 
-use reader::{Display, PointAnswer};
+use reader::Display;
 use screen::ScreenValues;
 
 // The highest value of a picture at a depth.
@@ -118,7 +118,7 @@ pub fn put_points(d: Display, values: ScreenValues, q: u32, memory: &[u8], line:
     let width = d.width as usize;
     let mut colours = [0u16; 1024];
     let n = record_code::least(width, 1024);
-    reader_line::read_line(d, values, q, memory, &mut colours[..n]);
+    let _ = reader_line::read_line(d, values, q, memory, &mut colours[..n]);
     put_colours(d.depth, width, &colours, line)
 }
 
@@ -133,11 +133,8 @@ pub fn put_answer(
 ) -> usize
     ensures { Stored line.old 0 (answer_line (answer_of (reading memory_size d values p q memory.now))) line.new result }
 {
-    let answer = reader_code::read_point(d, values, p, q, memory);
-    match answer {
-        PointAnswer::Shown(colour, address, bit) => {
-            text_code::put_point(colour as u64, address, bit as u64, line)
-        }
-        PointAnswer::Refused(n) => text_code::put_refusal(n as u64, 0, line),
+    match reader_code::read_point(d, values, p, q, memory) {
+        Ok(seen) => text_code::put_point(seen.colour as u64, seen.address, seen.bit as u64, line),
+        Err(refusal) => text_code::put_refusal(refusal.number() as u64, 0, line),
     }
 }

@@ -22,23 +22,26 @@ fn say_line<D: Display + Drop>(rt: &impl Eprint, line: u64, why: D) {
     let _ = eprintln!(rt; "line {line}: {why}");
 }
 
+// Why a sample of a height is refused.
+fn why_not(height: u32) -> &'static str {
+    if 100 < height {
+        "refused 27: height above 100"
+    } else {
+        "refused 27: not 1 to 512 steps ahead of the newest"
+    }
+}
+
 // The ring after a sample; where it is refused, its line is said, and why.
 fn take(rt: &impl Eprint, ring: Ring, line: u64, s: Sample) -> Ring
     ensures { result ≡ (taking ring s.sequence s.height).ring }
 {
-    let taken = ring_code::take_sample(ring, s.sequence, s.height);
-    if taken.number != 0 {
-        if 100 < s.height {
-            say_line(rt, line, "refused 27: height above 100");
-        } else {
-            say_line(
-                rt,
-                line,
-                "refused 27: not 1 to 512 steps ahead of the newest",
-            );
+    match ring_code::take_sample(ring, s.sequence, s.height) {
+        Ok(taken) => taken,
+        Err(_) => {
+            say_line(rt, line, why_not(s.height));
+            ring
         }
     }
-    taken.ring
 }
 
 // The ring after a line of text.
