@@ -68,6 +68,7 @@ fn last_operation(b: &[u8]) -> u8
 }
 
 // Whether the fields that the operation does not use are zero.
+#[tactic(auto, unfolding(command::specs::Command::must_be_zero, record::specs::Bytes::all_zero))]
 fn is_unused_zero(c: Command) -> bool
     ensures { result ≡ all_zero (must_be_zero c) }
 {
@@ -134,6 +135,7 @@ fn is_formed(s: Screen, b: &[u8], c: Command) -> bool
 }
 
 // Whether a rectangle lies in an image.
+#[tactic(auto, unfolding(command::specs::Command::inside_image))]
 fn is_inside(i: Image, x: u16, y: u16, width: u16, height: u16) -> bool
     ensures { result ≡ inside_image i x y width height }
 {
@@ -154,6 +156,7 @@ fn is_placed(s: Screen, c: Command) -> bool
 }
 
 // The host words of a line.
+#[tactic(auto, unfolding(command::specs::Command::line_words))]
 fn line_words(depth: u8, width: u16) -> u32
     ensures { (result ≡ line_words depth width) × (result ≤ 65535) }
 {
