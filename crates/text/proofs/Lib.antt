@@ -3,3 +3,4 @@ pub mod Stored
 pub mod Joined
 pub mod LineCases
 pub mod Numbers
+pub mod Between
