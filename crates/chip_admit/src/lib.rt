@@ -210,10 +210,11 @@ pub fn refusal_of(memory: u64, c: Chip, r: Record) -> Result<(), Refusal>
     if 0xFFFF < r.value {
         return Err(Refusal::Value);
     }
-    if !c.due.any {
-        return Err(Refusal::DataWord);
+    if c.due.any {
+        Ok(())
+    } else {
+        Err(Refusal::DataWord)
     }
-    Ok(())
 }
 
 // What is due after a register write: a started write waits for its first word.

@@ -6,7 +6,8 @@ ghost use Rattle.screen.specs.Screen.{memory_size};
 ghost use Rattle.command.specs.Task.{task};
 ghost use Rattle.unit.specs.Draw.{drawing, answer_of, memory_drawn};
 
-use screen::{ScreenAnswer, ScreenValues};
+use refusal::Refused;
+use screen::ScreenValues;
 use unit::Drawn;
 
 // What is asked for: the picture, or the line of panel point (p, q).
@@ -24,12 +25,11 @@ fn show(
     values: ScreenValues,
     memory: &[u8],
 ) {
-    let answer = screen_code::read_screen(screen);
-    match answer {
-        ScreenAnswer::Refused(n) => {
-            files::print_refusal(rt, n as u64, 0);
+    match screen_code::read_screen(screen) {
+        Err(refusal) => {
+            files::print_refusal(rt, refusal.into());
         }
-        ScreenAnswer::Accepted(s) => {
+        Ok(s) => {
             let d = reader_code::display_of(s);
             match asked {
                 Asked::Picture => {
@@ -44,7 +44,13 @@ fn show(
 }
 
 // Draws the list over the memory.
-fn draw_on(form: u32, screen: &[u8], list: &[u8], words: &[u16], memory: &mut [u8]) -> Drawn
+fn draw_on(
+    form: u32,
+    screen: &[u8],
+    list: &[u8],
+    words: &[u16],
+    memory: &mut [u8],
+) -> Result<Drawn, Refused>
     ensures value { result ≡ answer_of (drawing memory_size (task form screen.now list.now words.now) 2097152 memory.old) }
     ensures memory_after { memory.new ≡ memory_drawn memory_size (task form screen.now list.now words.now) 2097152 memory.old }
 {
@@ -66,11 +72,11 @@ pub fn run(
 {
     let drawn = draw_on(form, screen, list, words, memory);
     match drawn {
-        Drawn::Refused(n, i) => {
-            files::print_refusal(rt, n as u64, i);
+        Err(why) => {
+            files::print_refusal(rt, why);
         }
-        Drawn::Accepted(length, values) => {
-            show(rt, asked, screen, values, memory);
+        Ok(d) => {
+            show(rt, asked, screen, d.values, memory);
         }
     }
 }
@@ -91,10 +97,10 @@ pub fn run_through(
 {
     let whole = draw_on(form, screen, list, words, memory);
     match whole {
-        Drawn::Refused(n, i) => {
-            files::print_refusal(rt, n as u64, i);
+        Err(why) => {
+            files::print_refusal(rt, why);
         }
-        Drawn::Accepted(length, values) => {
+        Ok(_) => {
             run(rt, asked, 32, view, &[], &[], memory);
         }
     }

@@ -2,6 +2,7 @@
 #![tactic(auto)]
 
 ghost use Rattle.std.specs.Prelude.{◌≡◌, length};
+ghost use Rattle.refusal.specs.Number.{number_of};
 ghost use Rattle.screen.specs.Screen.{memory_size};
 ghost use Rattle.command.specs.Task.{short_form, long_form, task};
 ghost use Rattle.screen.specs.Values.{values_with};
@@ -23,8 +24,11 @@ ghost use Rattle.answers.specs.Answers.{compiled_of, display_with, point_of, dra
 
 use answers::{S1dCompiled, S1dDrawn, S1dGlyph, S1dHour, S1dPoint, S1dStrip, S1dValues};
 use form::Turned;
-use reader::{Display, Look};
+use older::OLDER_MEMORY;
+use reader::{Display, Spot};
+use refusal::Refusal;
 use ring::Ring;
+use screen::MEMORY_SIZE;
 use serial::{Answer, Player};
 use wear::Ask;
 
@@ -68,7 +72,7 @@ fn look_in(
     q: u32,
     lent: u64,
     size: u64,
-) -> Look
+) -> Result<Spot, Refusal>
     ensures { result ≡ looking size (display_with depth rotation flag width height) (values_with values.now) p q lent }
 {
     let d = Display {
@@ -107,7 +111,7 @@ pub extern "C" fn s1d_read_point(
         p,
         q,
         memory.len() as u64,
-        262144,
+        MEMORY_SIZE,
     );
     answers_code::point_of(reader_code::see(depth, memory, at))
 }
@@ -124,8 +128,8 @@ fn line_in(
     size: u64,
     memory: &[u8],
     line: &mut [u16],
-) -> u32
-    ensures value { result ≡ line_number size (display_with depth rotation flag width height) (values_with values.now) q memory.now (length line.old) }
+) -> Result<(), Refusal>
+    ensures value { number_of result ≡ line_number size (display_with depth rotation flag width height) (values_with values.now) q memory.now (length line.old) }
     ensures line_after { line.new ≡ line_after size (display_with depth rotation flag width height) (values_with values.now) q memory.now line.old }
 {
     let at = look_in(
@@ -167,10 +171,11 @@ pub extern "C" fn s1d_read_line(
     ensures value { result ≡ line_number memory_size (display_with depth rotation flag width height) (values_with values.now) q memory.now (length line.old) }
     ensures line_after { line.new ≡ line_after memory_size (display_with depth rotation flag width height) (values_with values.now) q memory.now line.old }
 {
-    let size = 262144u64;
-    line_in(
+    let size = MEMORY_SIZE;
+    let read = line_in(
         depth, rotation, flag, width, height, values, q, size, memory, line,
-    )
+    );
+    answers_code::number_of(read)
 }
 
 // Compiles, then plays the stream.
@@ -271,7 +276,7 @@ pub extern "C" fn s1d06_read_point(
         p,
         q,
         memory.len() as u64,
-        81920,
+        OLDER_MEMORY,
     );
     answers_code::point_of(reader_code::see(depth, memory, older))
 }
@@ -292,10 +297,11 @@ pub extern "C" fn s1d06_read_line(
     ensures value { result ≡ line_number older_memory (display_with depth rotation flag width height) (values_with values.now) q memory.now (length line.old) }
     ensures line_after { line.new ≡ line_after older_memory (display_with depth rotation flag width height) (values_with values.now) q memory.now line.old }
 {
-    let size = 81920u64;
-    line_in(
+    let size = OLDER_MEMORY;
+    let read = line_in(
         depth, rotation, flag, width, height, values, q, size, memory, line,
-    )
+    );
+    answers_code::number_of(read)
 }
 
 // A ring without a sample.
@@ -312,7 +318,8 @@ pub extern "C" fn s1d_take_sample(ring: &mut [u16; 1026], sequence: u16, height:
     ensures value { result ≡ (taking (ring_in ring.old) sequence height).number }
     ensures ring_after { ring.new ≡ cells_of (taking (ring_in ring.old) sequence height).ring }
 {
-    ring_code::take_into(ring, sequence, height)
+    let taken = ring_code::take_into(ring, sequence, height);
+    answers_code::number_of(taken)
 }
 
 // What a ring tells of the hour of an age.
@@ -372,7 +379,8 @@ pub extern "C" fn s1d_to_long(list: &[u8], target: &mut [u8]) -> Turned
     ensures value { result ≡ turning short_form long_form list.now (length target.old) }
     ensures target_after { target.new ≡ turned_into short_form long_form list.now target.old }
 {
-    form_code::to_long(list, target)
+    let turned = form_code::to_long(list, target);
+    answers_code::turned_of(turned)
 }
 
 // Turns a list of 48-byte records back into one of 32-byte records.
@@ -381,5 +389,6 @@ pub extern "C" fn s1d_to_short(list: &[u8], target: &mut [u8]) -> Turned
     ensures value { result ≡ turning long_form short_form list.now (length target.old) }
     ensures target_after { target.new ≡ turned_into long_form short_form list.now target.old }
 {
-    form_code::to_short(list, target)
+    let turned = form_code::to_short(list, target);
+    answers_code::turned_of(turned)
 }
