@@ -97,15 +97,11 @@ fn put_colours(depth: u32, width: usize, colours: &[u16], line: &mut [u8]) -> us
     ensures line_after { line.new ≡ sets line.old 0 (joined (λ p. pixel_bytes depth (get_or colours.now p 0)) (min width (length line.old / pixel_size depth))) }
 {
     let size = pixel_size(depth);
-    let n = record_code::least(width, line.len() / size);
-    let mut i = 0;
-    let mut at = 0;
-    while i < n {
-        put_colour(line, at, depth, colour_at(colours, i));
-        at += size;
-        i += 1;
+    let n = width.min(line.len() / size);
+    for i in 0..n {
+        put_colour(line, size * i, depth, colour_at(colours, i));
     }
-    at
+    size * n
 }
 
 // Line q of the panel's picture, as many points as there is room for; answers its bytes. A panel of more than 1,024 columns is refused, so its
@@ -117,7 +113,7 @@ pub fn put_points(d: Display, values: ScreenValues, q: u32, memory: &[u8], line:
 {
     let width = d.width as usize;
     let mut colours = [0u16; 1024];
-    let n = record_code::least(width, 1024);
+    let n = width.min(1024);
     let _ = reader_line::read_line(d, values, q, memory, &mut colours[..n]);
     put_colours(d.depth, width, &colours, line)
 }

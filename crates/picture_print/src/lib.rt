@@ -35,12 +35,10 @@ pub fn print_picture(rt: &(impl Print + Eprint), d: Display, values: ScreenValue
     if !print_head(rt, d) {
         return;
     }
-    let mut q = 0;
-    while q < d.height {
+    for q in 0..d.height {
         if !print_line(rt, d, values, q, memory) {
             return;
         }
-        q += 1;
     }
 }
 

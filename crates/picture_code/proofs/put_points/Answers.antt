@@ -3,10 +3,10 @@ use Rattle.picture.proofs.Line.{columns_length, buffer_length, points_stored}
 use Rattle.picture_code.proofs.put_points.Goals as goal
 
 pub slice_bounds-read_line-end : goal.slice_bounds-read_line-end
-slice_bounds-read_line-end c = columns_length 1024 _ _ c.least-n.ensures
+slice_bounds-read_line-end c = columns_length 1024 _ _ c.min-n.ensures
 
 pub slice_bounds-put_colours-end : goal.slice_bounds-put_colours-end
-slice_bounds-put_colours-end c = buffer_length 1024 c.least-n.result c.read_line.new.line c.read_line.auto.line
+slice_bounds-put_colours-end c = buffer_length 1024 c.min-n.result c.read_line.new.line c.read_line.auto.line
 
 pub returns : goal.returns
 returns c =
@@ -21,10 +21,10 @@ returns c =
           a.q
           a.memory.now
           1024
-          c.least-n.result
+          c.min-n.result
           c.read_line.new.line
           refl
-          c.least-n.ensures
+          c.min-n.ensures
           c.read_line.ensures.line_after
           a.line.now
           c.put_colours.new.line
