@@ -55,6 +55,7 @@ pub fn first_pass(form: u32, s: Screen, list: &[u8], left: u64) -> Result<u64, R
 }
 
 // Stores records of register numbers and their values from `at` on.
+// Two slices, not pairs: `records_with` takes two lists, and `blit_values` gives a command's values alone.
 pub fn put_records(buffer: &mut [u8], at: usize, numbers: &[u32], values: &[u64])
     requires numbers_len { length numbers.now ≡ length values.now }
     requires values_in_bounds { at + 8 * length values.now ≤ length buffer.old }

@@ -1,7 +1,7 @@
 -- A strip that is made stands at the front of its buffers; and what is drawn of it.
 use Prim.Native.Nat.{ℕ, ◌<◌, ◌≤◌}
 use mathlib.Core.Path.{◌≡◌, refl, sym, ap, subst, ◌∙◌}
-use mathlib.Core.Bool.{Bool, true, false, true≢false}
+use mathlib.Core.Bool.{Bool, true, false}
 use mathlib.Core.List.{List}
 use native.Mathlib.Omega.{arith}
 use lib.ListN.{length, take, drop, length-append}
@@ -14,20 +14,17 @@ use Rattle.screen.specs.Screen.{memory_size, screen_rows, screen_of}
 use Rattle.command.specs.Task.{short_form, task}
 use Rattle.unit.specs.Draw.{memory_drawn}
 use Rattle.screen.specs.declared.Screen.{Screen}
-use Rattle.screen.specs.declared.ScreenAnswer.TheVariants as ScreenAnswer
+use Rattle.std.specs.Prelude.{Result, Ok, Err}
+use Rattle.refusal.specs.declared.Refusal.{Refusal}
+use Rattle.refusal.proofs.Numbers.{refused_by}
 use Rattle.screen.proofs.Read.{read_accepted}
 use Rattle.compiler.proofs.Outcome.{refused_screen}
 use Rattle.ring.specs.declared.Ring.{Ring}
 use Rattle.font.specs.Factory.{factory_font}
 use Rattle.wear.specs.declared.Ask.{Ask}
 use Rattle.wear.specs.Strip.{Strip, strip_for, strip_list, strip_words, strip_rows, Stripping, stripping, list_after, words_after, stripping_of, answer_of}
-use Rattle.wear.specs.declared.StripAnswer.{StripAnswer}
-use Rattle.wear.specs.declared.StripAnswer.TheVariants.{Made, Refused}
+use Rattle.wear.specs.declared.Made.{Made}
 use Rattle.strip_show.specs.Drawn.{ask_for, strip_made, strip_drawn}
-
-is_made : StripAnswer → Bool
-is_made (Made n k) = true
-is_made (Refused n) = false
 
 -- what is at the front of a buffer
 pub record Front (n : ℕ) (new buffer : List ℕ) : Type 0 where
@@ -50,64 +47,61 @@ module _ (t : Strip) (room wordRoom : ℕ) where
   lengths : (stripping t room wordRoom).number ≡ 0 → ((stripping t room wordRoom).bytes ≡ length (strip_list t)) × ((stripping t room wordRoom).words ≡ length (strip_words t))
   lengths h = accepted_by (eqb (first_of (strip_rows t room wordRoom)) 0) refl h
 
-module _ (t : Strip) (list words : List ℕ) (r : StripAnswer) (answers : stripping_of r ≡ stripping t (length list) (length words)) where
+module _ (t : Strip) (list words : List ℕ) (r : Result Made Refusal) (answers : stripping_of r ≡ stripping t (length list) (length words)) where
   abbrev s : Stripping
   s = stripping t (length list) (length words)
 
-  module _ (n k : ℕ) (made : r ≡ Made n k) where
-    numbers : (s.number ≡ 0) × ((s.bytes ≡ n) × (s.words ≡ k))
+  module _ (m : Made) (made : r ≡ Ok m) where
+    numbers : (s.number ≡ 0) × ((s.bytes ≡ m.bytes) × (s.words ≡ m.words))
     unfolding stripping_of
     numbers =
         let e = sym answers ∙ ap stripping_of made in
         (ap (λ (x : Stripping). x.number) e, (ap (λ (x : Stripping). x.bytes) e, ap (λ (x : Stripping). x.words) e))
 
-    pub list_front : (l : List ℕ) → l ≡ list_after t list words → Front n (strip_list t) l
+    pub list_front : (l : List ℕ) → l ≡ list_after t list words → Front m.bytes (strip_list t) l
     unfolding list_after
     list_front l e =
         let d = numbers in
-        subst (λ (x : List ℕ). Front n (strip_list t) x) (sym (e ∙ rw d.0))
+        subst (λ (x : List ℕ). Front m.bytes (strip_list t) x) (sym (e ∙ rw d.0))
         (subst (λ (x : ℕ). Front x (strip_list t) (over (strip_list t) list)) (sym (lengths t (length list) (length words) d.0).0 ∙ d.1.0) (front (strip_list t) list))
 
-    pub words_front : (w : List ℕ) → w ≡ words_after t list words → Front k (strip_words t) w
+    pub words_front : (w : List ℕ) → w ≡ words_after t list words → Front m.words (strip_words t) w
     unfolding words_after
     words_front w e =
         let d = numbers in
-        subst (λ (x : List ℕ). Front k (strip_words t) x) (sym (e ∙ rw d.0))
+        subst (λ (x : List ℕ). Front m.words (strip_words t) x) (sym (e ∙ rw d.0))
         (subst (λ (x : ℕ). Front x (strip_words t) (over (strip_words t) words)) (sym (lengths t (length list) (length words) d.0).1 ∙ d.1.1) (front (strip_words t) words))
 
     -- the memory that drawing it leaves
     pub drawn : length list ≡ 2048 → length words ≡ 320 → (l w screen memory new : List ℕ) → l ≡ list_after t list words → w ≡ words_after t list words
-        → new ≡ memory_drawn memory_size (task short_form screen (take n l) (take k w)) 2097152 memory → new ≡ strip_made t screen memory
+        → new ≡ memory_drawn memory_size (task short_form screen (take m.bytes l) (take m.words w)) 2097152 memory → new ≡ strip_made t screen memory
     unfolding strip_made
     drawn a b l w screen memory new e f h =
         h
-        ∙ ap (λ (x : List ℕ). memory_drawn memory_size (task short_form screen x (take k w)) 2097152 memory) (list_front l e).is
+        ∙ ap (λ (x : List ℕ). memory_drawn memory_size (task short_form screen x (take m.words w)) 2097152 memory) (list_front l e).is
         ∙ ap (λ (x : List ℕ). memory_drawn memory_size (task short_form screen (strip_list t) x) 2097152 memory) (words_front w f).is
         ∙ rw (subst (λ (x : ℕ). (stripping t x 320).number ≡ 0) a (subst (λ (x : ℕ). (stripping t (length list) x).number ≡ 0) b numbers.0))
 
   -- a refused strip is not drawn
-  not_made : (b : Bool) → eqb s.number 0 ≡ b → (n : ℕ) → r ≡ answer_of s → r ≡ Refused n → eqb s.number 0 ≡ false
-  unfolding answer_of is_made
-  not_made true e n f h =
-      let k : answer_of s ≡ Made s.bytes s.words = rw e in
-      absurd (true≢false (sym (ap is_made (sym h ∙ f ∙ k))))
-  not_made false e n f h = e
+  not_made : (x : Refusal) → r ≡ answer_of s → r ≡ Err x → eqb s.number 0 ≡ false
+  unfolding answer_of
+  not_made x h f = let k = refused_by _ _ _ (sym h ∙ f) in ne_eqb s.number 0 (λ e. omega (arith, e, k.0))
 
-  pub not_drawn : length list ≡ 2048 → length words ≡ 320 → (n : ℕ) → r ≡ answer_of s → r ≡ Refused n → (screen memory : List ℕ) → memory ≡ strip_made t screen memory
+  pub not_drawn : length list ≡ 2048 → length words ≡ 320 → (x : Refusal) → r ≡ answer_of s → r ≡ Err x → (screen memory : List ℕ) → memory ≡ strip_made t screen memory
   unfolding strip_made
-  not_drawn a b n f h screen memory =
-      rw (subst (λ (x : ℕ). eqb (stripping t x 320).number 0 ≡ false) a (subst (λ (x : ℕ). eqb (stripping t (length list) x).number 0 ≡ false) b (not_made (eqb s.number 0) refl n f h)))
+  not_drawn a b x f h screen memory =
+      rw (subst (λ (k : ℕ). eqb (stripping t k 320).number 0 ≡ false) a (subst (λ (k : ℕ). eqb (stripping t (length list) k).number 0 ≡ false) b (not_made x f h)))
 
 -- ---- the screen
 is_not_zero : (n : ℕ) → 0 < n → eqb n 0 ≡ false
 is_not_zero n h = ne_eqb n 0 (λ e. omega (arith, e))
 
 module _ (r : Ring) (a : Ask) (site screen memory : List ℕ) where
-  pub screen_refused : (n : ℕ) → screen_of memory_size screen ≡ ScreenAnswer.Refused n → memory ≡ strip_drawn r a site screen memory
+  pub screen_refused : (x : Refusal) → screen_of memory_size screen ≡ Err x → memory ≡ strip_drawn r a site screen memory
   unfolding strip_drawn
-  screen_refused n e = let h = refused_screen memory_size screen n e in rw (is_not_zero (first_of (screen_rows memory_size screen)) (omega (arith, h.0, h.1)))
+  screen_refused x e = let h = refused_screen memory_size screen x e in rw (is_not_zero (first_of (screen_rows memory_size screen)) (omega (arith, h.0, h.1)))
 
-  pub screen_accepted : (s : Screen) → screen_of memory_size screen ≡ ScreenAnswer.Accepted s → (ask : Ask) → ask ≡ ask_for s.depth a
+  pub screen_accepted : (s : Screen) → screen_of memory_size screen ≡ Ok s → (ask : Ask) → ask ≡ ask_for s.depth a
       → (new : List ℕ) → new ≡ strip_made (strip_for r ask site factory_font) screen memory → new ≡ strip_drawn r a site screen memory
   unfolding strip_drawn
   screen_accepted s e ask f new h =

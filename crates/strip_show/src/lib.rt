@@ -8,8 +8,7 @@ ghost use Rattle.strip_show.specs.Drawn.{ask_for, strip_made, strip_drawn};
 
 use panel_show::Asked;
 use ring::Ring;
-use screen::ScreenAnswer;
-use wear::{Ask, StripAnswer};
+use wear::Ask;
 
 // Room for a list of 64 commands.
 fn list_room() -> [u8; 2048]
@@ -43,12 +42,12 @@ fn show_asked(
     let mut words = word_room();
     let made = wear_code::wear_strip(ring, ask, site, &factory, &mut list, &mut words);
     match made {
-        StripAnswer::Refused(n) => {
-            files::print_refusal(rt, n as u64, 0);
+        Err(refusal) => {
+            files::print_refusal(rt, refusal.into());
         }
-        StripAnswer::Made(bytes, count) => {
-            let nl = bytes as usize;
-            let nw = count as usize;
+        Ok(m) => {
+            let nl = m.bytes as usize;
+            let nw = m.words as usize;
             panel_show::run(
                 rt,
                 Asked::Picture,
@@ -88,12 +87,11 @@ pub fn show_strip(
 )
     ensures { memory.new ≡ strip_drawn ring a site.now screen.now memory.old }
 {
-    let answer = screen_code::read_screen(screen);
-    match answer {
-        ScreenAnswer::Refused(n) => {
-            files::print_refusal(rt, n as u64, 0);
+    match screen_code::read_screen(screen) {
+        Err(refusal) => {
+            files::print_refusal(rt, refusal.into());
         }
-        ScreenAnswer::Accepted(s) => {
+        Ok(s) => {
             let ask = ask_for(s.depth as u32, a);
             show_asked(rt, ring, ask, site, screen, memory);
         }

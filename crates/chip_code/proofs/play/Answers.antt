@@ -8,6 +8,7 @@ use Rattle.std.specs.Prelude.{None, Some}
 use Rattle.record.specs.Record.{records_of}
 use Rattle.refusal.specs.Number.{number, number_at, place_at, Nowhere}
 use Rattle.refusal.specs.declared.Refusal.{Refusal}
+use Rattle.refusal.specs.declared.Refusal.TheVariants.{DataWord}
 use Rattle.refusal.specs.declared.Refused.{Refused}
 use Rattle.refusal.proofs.Numbers.{number_positive}
 use Rattle.screen.specs.Screen.{memory_size}
@@ -64,7 +65,7 @@ returns-in-Some c = let a = c.args in
 pub returns-then-chip : goal.returns-then-chip
 unfolding number running_of
 returns-then-chip c = let a = c.args in
-    let t = refuses memory_size a.stream.now a.memory.now _
+    let t = refuses memory_size a.stream.now a.memory.now (record { refusal = DataWord; place = length a.stream.now / 8 })
     (ends a.stream.now a.memory.now c.check-run.result c.if-memory-ne-MEMORY_SIZE.false c.if-stream-ne0.false c.check-run.ensures c.new_chip-start.ensures
     ∙ end_due (running_of c.check-run.result) (length a.stream.now / 8) (none_refused c.check-run.result c.in_default.is) c.if-chip.true) in
     record { result_value = t.0; value = t.1.0; memory_after = t.1.1 }

@@ -8,19 +8,19 @@ use lib.Seq.{length-take-le}
 use Rattle.strip_show.proofs.show_asked.Goals as goal
 
 pub slice_bounds-list-end : goal.slice_bounds-list-end
-slice_bounds-list-end g c = let e = c.wear_strip-made.ensures in (list_front _ _ _ _ e.result_value _ _ c.in-Made.is _ e.list_after).within
+slice_bounds-list-end g c = let e = c.wear_strip-made.ensures in (list_front _ _ _ _ e.result_value _ c.in-Ok.is _ e.list_after).within
 
 pub slice_bounds-run-end : goal.slice_bounds-run-end
-slice_bounds-run-end g c = let e = c.wear_strip-made.ensures in sym (length-take-le _ _ (list_front _ _ _ _ e.result_value _ _ c.in-Made.is _ e.list_after).within)
+slice_bounds-run-end g c = let e = c.wear_strip-made.ensures in sym (length-take-le _ _ (list_front _ _ _ _ e.result_value _ c.in-Ok.is _ e.list_after).within)
 
 pub slice_bounds-words-end : goal.slice_bounds-words-end
-slice_bounds-words-end g c = let e = c.wear_strip-made.ensures in (words_front _ _ _ _ e.result_value _ _ c.in-Made.is _ e.words_after).within
+slice_bounds-words-end g c = let e = c.wear_strip-made.ensures in (words_front _ _ _ _ e.result_value _ c.in-Ok.is _ e.words_after).within
 
-pub slice_bounds-run-end-in-Made : goal.slice_bounds-run-end-in-Made
-slice_bounds-run-end-in-Made g c = let e = c.wear_strip-made.ensures in sym (length-take-le _ _ (words_front _ _ _ _ e.result_value _ _ c.in-Made.is _ e.words_after).within)
+pub slice_bounds-run-end-in-Ok : goal.slice_bounds-run-end-in-Ok
+slice_bounds-run-end-in-Ok g c = let e = c.wear_strip-made.ensures in sym (length-take-le _ _ (words_front _ _ _ _ e.result_value _ c.in-Ok.is _ e.words_after).within)
 
-pub returns-in-Refused : goal.returns-in-Refused
-returns-in-Refused g c = let e = c.wear_strip-made.ensures in let a = c.args in not_drawn (strip_for a.ring a.ask a.site.now c.factory_font-factory.result) c.list_room-list.result c.word_room-words.result _ e.result_value (sym c.list_room-list.ensures.value) (sym c.word_room-words.ensures.value) _ e.value c.in-Refused.is a.screen.now a.memory.now ∙ ap (λ (f : List ℕ). strip_made (strip_for a.ring a.ask a.site.now f) a.screen.now a.memory.now) c.factory_font-factory.ensures
+pub returns-in-Err : goal.returns-in-Err
+returns-in-Err g c = let e = c.wear_strip-made.ensures in let a = c.args in not_drawn (strip_for a.ring a.ask a.site.now c.factory_font-factory.result) c.list_room-list.result c.word_room-words.result _ e.result_value (sym c.list_room-list.ensures.value) (sym c.word_room-words.ensures.value) _ e.value c.in-Err.is a.screen.now a.memory.now ∙ ap (λ (f : List ℕ). strip_made (strip_for a.ring a.ask a.site.now f) a.screen.now a.memory.now) c.factory_font-factory.ensures
 
-pub returns-in-Made : goal.returns-in-Made
-returns-in-Made g c = let e = c.wear_strip-made.ensures in let a = c.args in drawn _ _ _ _ e.result_value _ _ c.in-Made.is (sym c.list_room-list.ensures.value) (sym c.word_room-words.ensures.value) _ _ a.screen.now a.memory.now _ e.list_after e.words_after c.run.ensures ∙ ap (λ (f : List ℕ). strip_made (strip_for a.ring a.ask a.site.now f) a.screen.now a.memory.now) c.factory_font-factory.ensures
+pub returns-in-Ok : goal.returns-in-Ok
+returns-in-Ok g c = let e = c.wear_strip-made.ensures in let a = c.args in drawn _ _ _ _ e.result_value _ c.in-Ok.is (sym c.list_room-list.ensures.value) (sym c.word_room-words.ensures.value) _ _ a.screen.now a.memory.now _ e.list_after e.words_after c.run.ensures ∙ ap (λ (f : List ℕ). strip_made (strip_for a.ring a.ask a.site.now f) a.screen.now a.memory.now) c.factory_font-factory.ensures
