@@ -1,6 +1,7 @@
 // Writes a picture, or what one point shows, to standard output.
 #![tactic(auto)]
 
+ghost use Rattle.std.specs.Prelude.{◌<◌};
 ghost use Rattle.files.specs.System.{YesOrNo};
 
 use reader::Display;
@@ -23,6 +24,7 @@ fn print_line(
     q: u32,
     memory: &[u8],
 ) -> bool
+    requires { q < d.height }
     ensures { YesOrNo result }
 {
     let mut line = [0u8; 3072];
