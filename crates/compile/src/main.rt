@@ -11,11 +11,12 @@
 
 ghost use Rattle.std.specs.Prelude.{◌≡◌, length};
 ghost use Rattle.command.specs.Task.{task};
-ghost use Rattle.compiler.specs.Compile.{numbers_of};
-ghost use Rattle.compiler.specs.Part.{RefusedPart};
+ghost use Rattle.compiler.specs.Compile.{compiling_of};
 ghost use Rattle.files.specs.System.{YesOrNo, LoadedBytes};
 ghost use Rattle.compile.specs.Chip.{compiling_for, buffer_for};
 
+use compiler::Compiled;
+use refusal::Refused;
 use std::rt::{Env, Files};
 
 // Prints the lines of a part of a stream, at most 1,024 of them; answers whether it could.
@@ -47,24 +48,22 @@ fn print_part(rt: &(impl Print + Eprint), part: &[u8]) {
     files::print(rt, &bytes[..n]);
 }
 
-// Compiles for the S1D13706 or the S1D13A05, stores the answer's numbers, and hands back the refused command's part of the list.
-fn compile_for<'a>(
+// Compiles for the S1D13706 or the S1D13A05.
+fn compile_for(
     older: bool,
     form: u32,
     screen: &[u8],
-    list: &'a [u8],
+    list: &[u8],
     words: &[u16],
     stream: &mut [u8],
-    answer: &mut [u64; 6],
-) -> &'a [u8]
-    ensures refused_part { RefusedPart form list.entry result (compiling_for older (task form screen.now list.now words.now) (length stream.old)) }
-    ensures answer_after { answer.new ≡ numbers_of (compiling_for older (task form screen.now list.now words.now) (length stream.old)) }
+) -> Result<Compiled, Refused>
+    ensures value { compiling_of result ≡ compiling_for older (task form screen.now list.now words.now) (length stream.old) }
     ensures stream_after { stream.new ≡ buffer_for older (task form screen.now list.now words.now) stream.old }
 {
     if older {
-        return older_code::compile(form, screen, list, words, stream, answer);
+        return older_code::compile_into(form, screen, list, words, stream);
     }
-    compiler_code::compile(form, screen, list, words, stream, answer)
+    compiler_code::compile_into(form, screen, list, words, stream)
 }
 
 // Compiles, and prints the stream or the refusal.
@@ -77,15 +76,17 @@ fn run(
     words: &[u16],
 ) {
     let mut stream = files::stream();
-    let mut answer = [0u64; 6];
-    let part = compile_for(older, form, screen, list, words, &mut stream, &mut answer);
-    if answer[0] != 0 {
-        files::print_refusal(rt, answer[0], answer[1]);
-        print_part(rt, part);
-        return;
+    let answer = compile_for(older, form, screen, list, words, &mut stream);
+    match answer {
+        Ok(c) => {
+            let n = c.length as usize;
+            print_stream(rt, &stream[..n]);
+        }
+        Err(why) => {
+            files::print_refusal(rt, why);
+            print_part(rt, compiler_code::refused_part(form, list, answer));
+        }
     }
-    let n = answer[2] as usize;
-    print_stream(rt, &stream[..n]);
 }
 
 // Reads the list of the file that argument i names; the S1D13706's is empty where it is left out.

@@ -3,8 +3,8 @@ use Rattle.compile.proofs.compile_for.Goals as goal
 
 pub returns-then-older : goal.returns-then-older
 unfolding compiling_for buffer_for
-returns-then-older c = rw c.if-older.true c.compile.ensures
+returns-then-older c = let e = c.compile_into.ensures in rw c.if-older.true (record { value = e.result_value; stream_after = e.stream_after })
 
 pub returns : goal.returns
 unfolding compiling_for buffer_for
-returns c = rw c.if-older.false c.compile-2.ensures
+returns c = let e = c.compile_into-2.ensures in rw c.if-older.false (record { value = e.result_value; stream_after = e.stream_after })

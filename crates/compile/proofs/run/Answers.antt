@@ -5,7 +5,7 @@ use Rattle.compile.proofs.Numbers.{length_fits}
 use Rattle.compile.proofs.run.Goals as goal
 
 pub slice_bounds-stream-end : goal.slice_bounds-stream-end
-slice_bounds-stream-end g c = omega (arith, length_fits _ _ _ _ c.compile_for-part.ensures.answer_after c.if-answer-ne0.false)
+slice_bounds-stream-end g c = omega (arith, length_fits _ _ _ _ _ c.compile_for-answer.ensures.value c.in-Ok.is)
 
 pub slice_bounds-print_stream-end : goal.slice_bounds-print_stream-end
-slice_bounds-print_stream-end g c = sym (length-take-le _ _ (omega (arith, length_fits _ _ _ _ c.compile_for-part.ensures.answer_after c.if-answer-ne0.false)))
+slice_bounds-print_stream-end g c = sym (length-take-le _ _ (omega (arith, length_fits _ _ _ _ _ c.compile_for-answer.ensures.value c.in-Ok.is)))
