@@ -212,11 +212,9 @@ pub fn glyph_given(a: Result<Glyph, Refusal>) -> S1dGlyph
 pub fn turned_of(a: Result<u64, Refusal>) -> Turned
     ensures { result ≡ turned_of a }
 {
-    match a {
-        Ok(length) => Turned { number: 0, length },
-        Err(why) => Turned {
-            number: why.number(),
-            length: 0,
-        },
-    }
+    let (number, length) = match a {
+        Ok(length) => (0, length),
+        Err(why) => (why.number(), 0),
+    };
+    Turned { number, length }
 }

@@ -23,6 +23,8 @@ const MISSING: i32 = 22;
 
 const TOO_LONG: i32 = 36;
 
+// Each room has a function of its own: one for any type and size would leave its size, and why, to each caller.
+//
 // Room for a list of 64 commands in the long form, and one byte more, so that a longer file is seen.
 pub fn list() -> [u8; 3073]
     ensures value { result ≡ replicate 3073 0 }

@@ -121,7 +121,7 @@ pub fn read_point_in(
     see(d.depth, memory, at)
 }
 
-// The same in the S1D13A05's memory.
+// The same in the S1D13A05's memory, as the unit's users call it.
 pub fn read_point(
     d: Display,
     values: ScreenValues,

@@ -206,7 +206,7 @@ pub fn read_line_in(
     read_line_from(at, size, d, values, q, memory, line)
 }
 
-// The same in the S1D13A05's memory.
+// The same in the S1D13A05's memory, as the unit's users call it.
 pub fn read_line(
     d: Display,
     values: ScreenValues,

@@ -196,13 +196,22 @@ fn check_fields(memory: u64, s: Screen) -> Result<(), Refusal>
         (Refusal::Depth, !pixel_code::is_depth(s.depth as u32)),
         (Refusal::Rotation, 3 < s.rotation),
         (Refusal::Panel, !is_panel(s.width as u32, s.height as u32)),
-        (Refusal::ViewWidth, !is_whole(s.depth as u32, main.width as u32)),
+        (
+            Refusal::ViewWidth,
+            !is_whole(s.depth as u32, main.width as u32),
+        ),
         (Refusal::LineLength, !is_line(s.depth, s.line, main.width)),
         (Refusal::MainImage, !is_image(memory, s.depth, main)),
         (Refusal::WindowPlace, windowed & !is_window(s)),
         (Refusal::WindowDwords, windowed & !is_window_whole(s)),
-        (Refusal::LineLength, windowed & !is_line(s.depth, w.line, w.width)),
-        (Refusal::WindowImage, windowed & !is_image(memory, s.depth, window)),
+        (
+            Refusal::LineLength,
+            windowed & !is_line(s.depth, w.line, w.width),
+        ),
+        (
+            Refusal::WindowImage,
+            windowed & !is_image(memory, s.depth, window),
+        ),
     ])
 }
 
@@ -219,7 +228,7 @@ pub fn read_screen_in(memory: u64, bytes: &[u8]) -> Result<Screen, Refusal>
     Ok(s)
 }
 
-// The same in the S1D13A05's memory.
+// The same in the S1D13A05's memory, as the unit's users call it.
 pub fn read_screen(bytes: &[u8]) -> Result<Screen, Refusal>
     ensures value { result ≡ screen_of memory_size bytes.now }
     ensures result_value { number_of result ≡ first_of (screen_rows memory_size bytes.now) }

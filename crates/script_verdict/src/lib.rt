@@ -11,7 +11,7 @@ use refusal::{Refusal, Refused};
 use screen::ScreenValues;
 use script::Tally;
 
-// The steps that only compare, and the end of an example.
+// The steps that only compare, and the end of an example: numbers, as those of script_steps.
 const REG: u32 = 0x20676572;
 
 const RECORDS: u32 = 0x6F636572;
@@ -102,7 +102,13 @@ fn is_colour(line: &[u8], a: Result<Point, Refusal>) -> bool
 }
 
 // Whether the line's panel point, after playing, shows the line's colour.
-fn is_point(line: &[u8], c: Result<Compiled, Refused>, p: Result<ScreenValues, Refused>, desk: &[u8; 92], memory: &[u8; 262144]) -> bool
+fn is_point(
+    line: &[u8],
+    c: Result<Compiled, Refused>,
+    p: Result<ScreenValues, Refused>,
+    desk: &[u8; 92],
+    memory: &[u8; 262144],
+) -> bool
     ensures { result ≡ is_point line.now c p desk.now memory.now }
 {
     match p {

@@ -31,7 +31,7 @@ pub fn put_decimal(text: &mut [u8], at: usize, n: u64) -> usize
     put(text, at, &digits[..k])
 }
 
-// The reason of a refusal, from a table of all; none of a number that is not given.
+// The reason of a refusal, from the table of them; none of a number above its last.
 fn reason_in(table: &[&'static [u8]; 30], number: u64) -> &'static [u8]
     requires { map (λ row. row.now) table.now ≡ map letters reasons }
     ensures { result.now ≡ reason number }

@@ -32,7 +32,7 @@ fn put_line(text: &mut [u8], at: usize, r: Record) -> usize
     put(text, at, b"\n")
 }
 
-// Stores byte i of bytes: two digits and a space.
+// Stores a byte: two digits and a space.
 fn put_byte(text: &mut [u8], at: usize, b: u8) -> usize
     ensures { Stored text.old at (last_digits 16 2 b ++ letters " ") text.new result }
 {

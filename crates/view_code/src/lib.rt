@@ -5,7 +5,7 @@ ghost use Rattle.std.specs.Prelude.{◌≡◌, true, ◌&&◌, cond, eqb, ◌+�
 ghost use Rattle.pixel.specs.Depth.{is_depth};
 ghost use Rattle.screen.specs.Fields.{values_fit};
 ghost use Rattle.view.specs.Walk.{walk, between, in_window_by, corner_p, corner_q, place_of};
-ghost use Rattle.view.specs.Steps.{is_windows, meets_window, window_columns, steps_at, steps_from};
+ghost use Rattle.view.specs.Steps.{meets_window, window_columns, steps_at, steps_from};
 
 use screen::{Origin, ScreenValues};
 use view::{Columns, Place, Steps};
@@ -96,19 +96,10 @@ fn corner_q(rotation: u32, k: u32, y: u64) -> u64
     }
 }
 
-// Where the chip looks for a panel point, from values that are in their fields, and the line offset of the image there.
-#[tactic(auto, unfolding(view::specs::Walk::place_of))]
-fn place_and_offset(
-    depth: u32,
-    rotation: u32,
-    flag: u32,
-    values: ScreenValues,
-    p: u32,
-    q: u32,
-) -> (Place, u64)
+// Where the chip looks for a panel point, from values that are in their fields.
+pub fn place_of(depth: u32, rotation: u32, flag: u32, values: ScreenValues, p: u32, q: u32) -> Place
     requires { values_fit values ≡ true }
-    ensures place { result.0 ≡ place_of depth rotation flag values p q }
-    ensures offset { result.1 ≡ cond (is_windows depth rotation flag values p q) values.window.offset values.main.offset }
+    ensures { result ≡ place_of depth rotation flag values p q }
 {
     let k = pixel_code::per_dword(depth);
     let main = values.main;
@@ -116,19 +107,9 @@ fn place_and_offset(
     if in_window(flag, rotation, k, values.x, values.y, p, q) {
         let x = record_code::minus(p as u64, corner_p(rotation, k, values.x));
         let y = record_code::minus(q as u64, corner_q(rotation, k, values.y));
-        let w = walk_to(rotation, k, window, x as u32, y as u32);
-        return (w, window.offset);
+        return walk_to(rotation, k, window, x as u32, y as u32);
     }
-    let w = walk_to(rotation, k, main, p, q);
-    (w, main.offset)
-}
-
-// Where the chip looks for a panel point, from values that are in their fields.
-pub fn place_of(depth: u32, rotation: u32, flag: u32, values: ScreenValues, p: u32, q: u32) -> Place
-    requires { values_fit values ≡ true }
-    ensures { result ≡ place_of depth rotation flag values p q }
-{
-    place_and_offset(depth, rotation, flag, values, p, q).0
+    walk_to(rotation, k, main, p, q)
 }
 
 // Whether panel line q meets the window's lines.
@@ -189,7 +170,8 @@ fn steps_at(depth: u32, rotation: u32, w: Place, offset: u64) -> Steps
     }
 }
 
-// The walk from panel point (p, q) on by steps, from values that are in their fields.
+// The walk from panel point (p, q) on by steps, from values that are in their fields. It does not call place_of: with a second caller LLVM
+// no longer puts the point reader in line.
 pub fn steps_from(
     depth: u32,
     rotation: u32,
@@ -201,6 +183,15 @@ pub fn steps_from(
     requires { (is_depth depth ≡ true) × (rotation < 4) × (values_fit values ≡ true) }
     ensures { result ≡ steps_from depth rotation flag values p q }
 {
-    let (w, offset) = place_and_offset(depth, rotation, flag, values, p, q);
-    steps_at(depth, rotation, w, offset)
+    let k = pixel_code::per_dword(depth);
+    let main = values.main;
+    let window = values.window;
+    if in_window(flag, rotation, k, values.x, values.y, p, q) {
+        let x = record_code::minus(p as u64, corner_p(rotation, k, values.x));
+        let y = record_code::minus(q as u64, corner_q(rotation, k, values.y));
+        let w = walk_to(rotation, k, window, x as u32, y as u32);
+        return steps_at(depth, rotation, w, window.offset);
+    }
+    let w = walk_to(rotation, k, main, p, q);
+    steps_at(depth, rotation, w, main.offset)
 }
