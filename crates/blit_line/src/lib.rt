@@ -25,7 +25,9 @@ pub fn copy_bytes(from: &[u8], at: usize, size: usize, to: &mut [u8])
     requires { (size ≤ length to.old) × (at + size ≤ length from.now) }
     ensures { to.new ≡ copied from.now at size to.old }
 {
-    to[..size].copy_from_slice(&from[at..at + size]);
+    for i in 0..size {
+        to[i] = from[at + i];
+    }
 }
 
 // The source pixel, or the destination pixel where the source pixel is the key colour.

@@ -29,7 +29,11 @@ fn in_long_form(b: &[u8]) -> [u8; 48]
     ensures { result ≡ over b.now (replicate 48 0) }
 {
     let mut whole = [0; 48];
-    whole[..b.len()].copy_from_slice(b);
+    if b.len() < 48 {
+        whole[..32].copy_from_slice(&b[..32]);
+    } else {
+        whole.copy_from_slice(&b[..48]);
+    }
     whole
 }
 

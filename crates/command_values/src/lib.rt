@@ -101,6 +101,7 @@ fn pattern_value(s: Screen, c: Command) -> u64
 }
 
 // The address of the pixel that a command starts at, of a rectangle whose upper left pixel is (x, y).
+#[inline(always)]
 #[tactic(auto, unfolding(command::specs::Values::last_column, command::specs::Values::last_line))]
 fn start_value(s: Screen, c: Command, x: u16, y: u16) -> u64
     ensures { result ≡ address_of s.depth (surface_of s c) (x + last_column s c) (y + last_line s c) }

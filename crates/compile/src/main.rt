@@ -12,6 +12,7 @@
 ghost use Rattle.std.specs.Prelude.{◌≡◌, length};
 ghost use Rattle.command.specs.Task.{task};
 ghost use Rattle.compiler.specs.Compile.{compiling_of};
+ghost use Rattle.compiler.specs.Part.{RefusedPart};
 ghost use Rattle.files.specs.System.{YesOrNo, LoadedBytes};
 ghost use Rattle.compile.specs.Chip.{compiling_for, buffer_for};
 
@@ -48,22 +49,25 @@ fn print_part(rt: &(impl Print + Eprint), part: &[u8]) {
     files::print(rt, &bytes[..n]);
 }
 
-// Compiles for the S1D13706 or the S1D13A05.
-fn compile_for(
+// Compiles for the S1D13706 or the S1D13A05, and hands back the refused command's part of the list beside the answer.
+fn compile_for<'a>(
     older: bool,
     form: u32,
     screen: &[u8],
-    list: &[u8],
+    list: &'a [u8],
     words: &[u16],
     stream: &mut [u8],
-) -> Result<Compiled, Refused>
-    ensures value { compiling_of result ≡ compiling_for older (task form screen.now list.now words.now) (length stream.old) }
+) -> (Result<Compiled, Refused>, &'a [u8])
+    ensures value { compiling_of result.0 ≡ compiling_for older (task form screen.now list.now words.now) (length stream.old) }
+    ensures refused_part { RefusedPart form list.entry result.1 (compiling_for older (task form screen.now list.now words.now) (length stream.old)) }
     ensures stream_after { stream.new ≡ buffer_for older (task form screen.now list.now words.now) stream.old }
 {
-    if older {
-        return older_code::compile_into(form, screen, list, words, stream);
-    }
-    compiler_code::compile_into(form, screen, list, words, stream)
+    let answer = if older {
+        older_code::compile_into(form, screen, list, words, stream)
+    } else {
+        compiler_code::compile_into(form, screen, list, words, stream)
+    };
+    (answer, compiler_code::refused_part(form, list, answer))
 }
 
 // Compiles, and prints the stream or the refusal.
@@ -76,7 +80,7 @@ fn run(
     words: &[u16],
 ) {
     let mut stream = files::stream();
-    let answer = compile_for(older, form, screen, list, words, &mut stream);
+    let (answer, part) = compile_for(older, form, screen, list, words, &mut stream);
     match answer {
         Ok(c) => {
             let n = c.length as usize;
@@ -84,7 +88,7 @@ fn run(
         }
         Err(why) => {
             files::print_refusal(rt, why);
-            print_part(rt, compiler_code::refused_part(form, list, answer));
+            print_part(rt, part);
         }
     }
 }

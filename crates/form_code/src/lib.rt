@@ -35,14 +35,16 @@ fn stays_long(from: u32, to: u32, list: &[u8]) -> bool
     false
 }
 
-// Stores a record in a form from `at` on.
+// Stores a record in a form from `at` on; its bytes are read before any is stored, so that 16 of them move at once.
 fn put_record(b: &[u8], form: u32, target: &mut [u8], at: usize)
     requires form_value { is_form form ≡ true }
     requires in_bounds { 32 ≤ length b.now }
     requires form_in_bounds { at + form ≤ length target.old }
     ensures { target.new ≡ sets target.old at (record_in form b.now) }
 {
-    target[at..at + 32].copy_from_slice(&b[..32]);
+    let mut first = [0; 32];
+    first.copy_from_slice(&b[..32]);
+    target[at..at + 32].copy_from_slice(&first);
     if form == 48 {
         target[at + 32..at + 48].fill(0);
     }
