@@ -1,8 +1,7 @@
 use mathlib.Core.Path.{refl}
 use native.Mathlib.Numerals.{add-one}
-use native.Mathlib.Omega.{arith}
 use lib.ListN.{length-set}
-use Rattle.blit.proofs.Copy.{copied_none, copied_more, copied_end}
+use Rattle.blit.proofs.Copy.{copied_none, copied_more}
 use Rattle.blit_line.proofs.copy_bytes.Goals as goal
 
 pub loop-i-init : goal.loop-i-init
