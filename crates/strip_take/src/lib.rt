@@ -31,30 +31,24 @@ fn why_not(height: u32) -> &'static str {
     }
 }
 
-// The ring after a sample; where it is refused, its line is said, and why.
-fn take(rt: &impl Eprint, ring: Ring, line: u64, s: Sample) -> Ring
-    ensures { result ≡ (taking ring s.sequence s.height).ring }
+// Takes a sample into the ring; where it is refused, its line is said, and why.
+fn take(rt: &impl Eprint, ring: &mut Ring, line: u64, s: Sample)
+    ensures { ring.new ≡ (taking ring.old s.sequence s.height).ring }
 {
-    match ring_code::take_sample(ring, s.sequence, s.height) {
-        Ok(taken) => taken,
-        Err(_) => {
-            say_line(rt, line, why_not(s.height));
-            ring
-        }
+    match ring_code::take_sample(*ring, s.sequence, s.height) {
+        Ok(taken) => *ring = taken,
+        Err(_) => say_line(rt, line, why_not(s.height)),
     }
 }
 
-// The ring after a line of text.
-fn take_line(rt: &impl Eprint, ring: Ring, number: u64, line: &[u8]) -> Ring
-    ensures { result ≡ ring_after ring (with_line (line_means line.now) []) }
+// Takes what a line of text has into the ring.
+fn take_line(rt: &impl Eprint, ring: &mut Ring, number: u64, line: &[u8])
+    ensures { ring.new ≡ ring_after ring.old (with_line (line_means line.now) []) }
 {
     match sample_code::line_means(line) {
         Ok(Some(sample)) => take(rt, ring, number, sample),
-        Ok(None) => ring,
-        Err(no_sample) => {
-            say_line(rt, number, no_sample);
-            ring
-        }
+        Ok(None) => {}
+        Err(no_sample) => say_line(rt, number, no_sample),
     }
 }
 
@@ -69,7 +63,7 @@ pub fn take_lines(rt: &impl Eprint, text: &[u8]) -> Ring
     while at < text.len() {
         let n = sample_code::run_end(Stop::LineEnd, &text[at..]);
         number += 1;
-        ring = take_line(rt, ring, number, &text[at..at + n]);
+        take_line(rt, &mut ring, number, &text[at..at + n]);
         at += n + 1;
     }
     ring

@@ -21,4 +21,4 @@ pub returns-in-Err : goal.returns-in-Err
 unfolding taken_of
 returns-in-Err g c =
     let a = c.args in
-    ring_left (takes a.ring.any a.ring.newest a.s.sequence a.s.height) _ _ _ refl (refused_by _ _ _ (sym c.take_sample.ensures ∙ c.in-Err.is)).0
+    ring_left (takes a.ring.now.any a.ring.now.newest a.s.sequence a.s.height) _ _ _ refl (refused_by _ _ _ (sym c.take_sample.ensures ∙ c.in-Err.is)).0
