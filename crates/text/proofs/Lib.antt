@@ -4,3 +4,4 @@ pub mod Joined
 pub mod LineCases
 pub mod Numbers
 pub mod Between
+pub mod Table

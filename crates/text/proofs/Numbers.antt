@@ -1,18 +1,18 @@
 -- A text's number, digit by digit: the number of the digits so far, with the others behind it, is the whole.
-use Prim.Native.Nat.{ℕ, ◌+◌, ◌-◌, ◌*◌, ◌^◌, ◌<◌, ◌≤◌, min, max}
-use mathlib.Core.Path.{◌≡◌, ap, ◌∙◌}
+use Prim.Native.Nat.{ℕ, zero, suc, ◌+◌, ◌-◌, ◌*◌, ◌/◌, ◌%◌, ◌^◌, ◌<◌, ◌≤◌}
+use mathlib.Core.Path.{◌≡◌, refl, ◌∙◌}
 use mathlib.Core.Bool.{true, false}
-use mathlib.Core.List.{List}
+use mathlib.Core.List.{List, [], ◌∷◌}
 use native.Mathlib.Nat.{pow-suc, pow-le-pow_right}
 use native.Mathlib.Numerals.{add-one}
 use native.Mathlib.Omega.{arith}
-use lib.ListN.{length, get_or, drop, drop_of_length-le}
-use lib.Seq.{drop-cons}
+use lib.ListN.{length, length-append, get_or, drop, drop_of_length-le, take}
+use lib.Seq.{drop-cons, drop-append-le, take_all}
 use lib.Dec.{leb, eqb}
 use borrow.Author.Tests.{le-leb, lt-leb, leb-true, eqb-true, eqb-false}
 use Rattle.record.proofs.Choice.{and_left, and_right}
 use Rattle.std.specs.Prelude.{Some, None}
-use Rattle.io.specs.Digits.{last_digits, IsDigitCount}
+use Rattle.io.specs.Digits.{hex_digit_ascii, last_digits}
 use Rattle.text.specs.Numbers.{is_digit, digits_behind, number_of}
 
 -- a text that is empty, one that is too long, and the others
@@ -51,14 +51,21 @@ more_digits n d i h l = rw add-one (omega (arith, pow-suc 10 i))
 pub few_digits : (n i : ℕ) → n < 10 ^ i → i ≤ 8 → n < 100000000
 few_digits n i h l = omega (arith, pow-le-pow_right {n = 10} (omega arith) {i = i} {j = 8} l)
 
--- ---- hexadecimal
--- a number's digits, if it has at most w, are w with the zeros in front
-hex_count : (w k n : ℕ) → 1 ≤ w → w ≤ 16 → n < 16 ^ w → IsDigitCount 16 (min (max w 1) 16) n k → k ≡ w
-hex_count w k n a b h f =
-    let more : w < k → ⊥ = λ l. omega (arith, f.2 (omega arith), pow-le-pow_right {n = 16} (omega arith) {i = w} {j = k - 1} (omega arith)) in
-    omega (arith, f.0, more)
+-- ---- a number's last digits
+length_digits : (b k n : ℕ) → length (last_digits b k n) ≡ k
+length_digits b zero n = refl
+length_digits b (suc k) n = length-append (last_digits b k (n / b)) (hex_digit_ascii (n % b) ∷ []) ∙ omega (arith, length_digits b k (n / b))
 
-pub hex_spelt : (w k n m : ℕ) (s : List ℕ) → 1 ≤ w → w ≤ 16 → n < 16 ^ w → m ≡ n → IsDigitCount 16 (min (max w 1) 16) m k → s ≡ last_digits 16 k m → s ≡ last_digits 16 w n
-hex_spelt w k n m s a b h q f e =
-    let c : k ≡ w = hex_count w k m a b (omega arith) f in
-    e ∙ ap (λ (x : ℕ). last_digits 16 k x) q ∙ ap (λ (x : ℕ). last_digits 16 x n) c
+-- the last w of them
+fewer_digits : (b w k n : ℕ) → w ≤ k → drop (k - w) (last_digits b k n) ≡ last_digits b w n
+fewer_digits b zero k n h = drop_of_length-le (last_digits b k n) {i = k - 0} (omega (arith, length_digits b k n))
+fewer_digits b (suc w) zero n h = absurd (omega arith)
+fewer_digits b (suc w) (suc k) n h =
+    let e : suc k - suc w ≡ k - w = omega arith in
+    let high = last_digits b k (n / b) in
+    let more : k - w ≤ length high = omega (arith, length_digits b k (n / b)) in
+    rw (e, drop-append-le (k - w) high (hex_digit_ascii (n % b) ∷ []) more, fewer_digits b w k (n / b) (omega arith))
+
+pub digits_end : (b w k n : ℕ) (s : List ℕ) → w ≤ k → s ≡ last_digits b k n → take (k - (k - w)) (drop (k - w) s) ≡ last_digits b w n
+digits_end b w k n s h e =
+    rw (e, fewer_digits b w k n h) (take_all (k - (k - w)) (last_digits b w n) (omega (arith, length_digits b w n)))

@@ -3,16 +3,16 @@ use Prim.Native.Nat.{ℕ, zero, suc, ◌+◌, ◌-◌, ◌*◌, ◌/◌, ◌^◌
 use mathlib.Core.Path.{◌≡◌, refl, sym, ap, subst, ◌∙◌}
 use mathlib.Core.Bool.{Bool, true, false}
 use mathlib.Core.List.{List, [], ◌∷◌, ◌++◌}
-use native.Mathlib.Nat.{pow-suc}
+use native.Mathlib.Nat.{add-zero, pow-suc}
+use native.Mathlib.Numerals.{add-one}
 use native.Mathlib.Omega.{arith}
-use borrow.Rule.Slice.PartMut.{put_mid}
 use borrow.Author.Tests.{lt-ltb, le-ltb, leb-true, leb-false}
 use lib.Dec.{leb}
-use lib.ListN.{get_or-eq_default, length, length-append, drop, drop_of_length-le, take, take-append-drop}
-use lib.Seq.{sets, length-sets, length-take-le, set_out}
+use lib.ListN.{get_or-eq_default, length, length-append, set, get_or, drop, drop_of_length-le, take}
+use lib.Seq.{sets, length-sets, drop-cons, length-take-le, set_out}
 use Rattle.io.specs.Counts.{IsPrefixLen}
 use Rattle.io.specs.Digits.{last_digits, IsDigitCount}
-use Rattle.record.proofs.Stores.{sets_append, part_put}
+use Rattle.record.proofs.Stores.{sets_append}
 use Rattle.text.specs.Text.{letters, last_decimal_digits, decimal, Stored}
 use Rattle.text.specs.Refusal.{reasons, reason}
 
@@ -20,36 +20,33 @@ use Rattle.text.specs.Refusal.{reasons, reason}
 pub counts : (n : ℕ) (l : List ℕ) → n ≤ length l → IsPrefixLen n l
 counts n l h = (h, sym (length-take-le n l h))
 
--- ---- a text
+-- ---- a text, letter by letter
 -- past the end nothing is stored
 sets_out : (l vs : List ℕ) (i : ℕ) → length l ≤ i → sets l i vs ≡ l
 sets_out l [] i h = refl
 sets_out l (a ∷ vs) i h = rw (set_out l i a h) (sets_out l vs (suc i) (omega arith))
 
--- of what is left, either nothing is, or there is no room for it
-put_last : (b : Bool) (l vs : List ℕ) (at n : ℕ) → leb (length vs) n ≡ b → min (length vs) (length l - at) ≤ n → sets l (at + n) (drop n vs) ≡ l
-put_last true l vs at n e h = ap (λ (r : List ℕ). sets l (at + n) r) (drop_of_length-le vs {i = n} (leb-true (length vs) n e))
-put_last false l vs at n e h = sets_out l (drop n vs) (at + n) (omega (arith, leb-false (length vs) n e))
+-- what is left to store, done to the text now, is the whole done to the text at entry
+pub put_start : (old vs : List ℕ) (at : ℕ) → sets old at vs ≡ sets old (at + 0) (drop 0 vs)
+put_start old vs at = rw add-zero
 
--- storing all is storing what has room
-room_alone : (old vs : List ℕ) (at n : ℕ) → n ≡ min (length vs) (length old - at) → sets old at vs ≡ sets old at (take n vs)
-room_alone old vs at n e =
-    let l = sets old at (take n vs) in
-    let same : length l ≡ length old = length-sets old at (take n vs) in
-    ap (λ (s : List ℕ). sets old at s) (sym (take-append-drop n vs))
-    ∙ sets_append old at (take n vs) (drop n vs)
-    ∙ ap (λ (k : ℕ). sets l (at + k) (drop n vs)) (length-take-le n vs (omega arith))
-    ∙ put_last (leb (length vs) n) l vs at n refl (omega arith)
+pub put_turn : (old l vs : List ℕ) (at n room i : ℕ) → n ≡ min (length vs) room → i < n → sets old at vs ≡ sets l (at + i) (drop i vs) → sets old at vs ≡ sets (set l (at + i) (get_or vs i 0)) (at + (i + 1)) (drop (i + 1) vs)
+put_turn old l vs at n room i m h e =
+    let more : i < length vs = omega arith in
+    let s : at + (i + 1) ≡ suc (at + i) = omega arith in
+    e ∙ ap (λ (r : List ℕ). sets l (at + i) r) (drop-cons vs i 0 more) ∙ (rw (s, add-one))
 
--- the part of the text that has them is given them
-pub put_part : (old vs part : List ℕ) (at n : ℕ) → at ≤ length old → n ≡ min (length vs) (length old - at) → part ≡ take n vs → Stored old at vs (put_mid at (at + n - at) old part) (at + n)
-put_part old vs part at n h e p =
-    let size : length (take n vs) ≡ n = length-take-le n vs (omega arith) in
-    let text : put_mid at (at + n - at) old part ≡ sets old at (take n vs) = ap (put_mid at (at + n - at) old) p ∙ part_put old at (at + n) (take n vs) (omega arith) (omega arith) (omega arith) in
+-- either nothing is left, or there is no room for it
+put_last : (b : Bool) (l vs : List ℕ) (at i : ℕ) → leb (length vs) i ≡ b → min (length vs) (length l - at) ≤ i → sets l (at + i) (drop i vs) ≡ l
+put_last true l vs at i e h = ap (λ (r : List ℕ). sets l (at + i) r) (drop_of_length-le vs {i = i} (leb-true (length vs) i e))
+put_last false l vs at i e h = sets_out l (drop i vs) (at + i) (omega (arith, leb-false (length vs) i e))
+
+pub put_end : (old l vs : List ℕ) (at n i : ℕ) → at ≤ length old → length l ≡ length old → n ≡ min (length vs) (length old - at) → n ≤ i → sets old at vs ≡ sets l (at + i) (drop i vs) → Stored old at vs l (at + n)
+put_end old l vs at n i h s m k e =
     record {
-      text = text ∙ sym (room_alone old vs at n e);
+      text = sym (e ∙ put_last (leb (length vs) i) l vs at i refl (omega arith));
       next = omega arith;
-      within = counts _ _ (rw (text, length-sets) (omega arith));
+      within = counts _ _ (omega arith);
     }
 
 pub put_none : (old vs : List ℕ) (at : ℕ) → length old < at → Stored old at vs old (length old)

@@ -18,7 +18,9 @@ pub fn put(text: &mut [u8], at: usize, bytes: &[u8]) -> usize
         return text.len();
     }
     let n = bytes.len().min(text.len() - at);
-    text[at..at + n].copy_from_slice(&bytes[..n]);
+    for i in 0..n {
+        text[at + i] = bytes[i];
+    }
     at + n
 }
 

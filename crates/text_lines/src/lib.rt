@@ -1,10 +1,10 @@
 // What the programs write and read besides: a stream as lines of text, bytes in hexadecimal, host words from bytes, and numbers.
 #![tactic(auto)]
 
-ghost use Rattle.std.specs.Prelude.{◌≡◌, ◌*◌, ◌/◌, ◌^◌, ◌<◌, ◌≤◌, ◌++◌, min, length};
+ghost use Rattle.std.specs.Prelude.{◌≡◌, ◌*◌, ◌/◌, ◌%◌, ◌≤◌, ◌++◌, min, length};
 ghost use Rattle.std.proofs.lemmas.List.Edits.{sets};
 ghost use Rattle.io.specs.Counts.{IsPrefixLen};
-ghost use Rattle.io.specs.Digits.{last_digits};
+ghost use Rattle.io.specs.Digits.{last_digits, hex_digit_ascii};
 ghost use Rattle.text.specs.Text.{letters, Stored};
 ghost use Rattle.text.specs.Lines.{joined, record_line, stream_line, hex_byte, word_of};
 ghost use Rattle.text.specs.Numbers.{number_of};
@@ -12,14 +12,44 @@ ghost use Rattle.text.specs.Numbers.{number_of};
 use record::Record;
 use text_code::put;
 
-// Stores a number that has at most `width` hexadecimal digits, with zeros in front up to so many.
+// The letter of a number's last hexadecimal digit.
+fn letter(x: u32) -> u8
+    ensures { result ≡ hex_digit_ascii (x % 16) }
+{
+    let d = x % 16;
+    if d < 10 { 48 + d as u8 } else { 87 + d as u8 }
+}
+
+// The last eight hexadecimal digits of a number.
+fn eight(n: u32) -> [u8; 8]
+    ensures { result ≡ last_digits 16 8 n }
+{
+    let a = n / 16;
+    let b = a / 16;
+    let c = b / 16;
+    let d = c / 16;
+    let e = d / 16;
+    let f = e / 16;
+    let g = f / 16;
+    [
+        letter(g),
+        letter(f),
+        letter(e),
+        letter(d),
+        letter(c),
+        letter(b),
+        letter(a),
+        letter(n),
+    ]
+}
+
+// Stores a number's last `width` hexadecimal digits.
 fn put_hex(text: &mut [u8], at: usize, n: u32, width: usize) -> usize
-    requires { (1 ≤ width) × (width ≤ 16) × (n < 16 ^ width) }
+    requires { width ≤ 8 }
     ensures { Stored text.old at (last_digits 16 width n) text.new result }
 {
-    let mut digits = [0u8; 16];
-    let k = io::hex(u64::from(n), width, &mut digits);
-    put(text, at, &digits[..k])
+    let digits = eight(n);
+    put(text, at, &digits[8 - width..])
 }
 
 // Stores a record's line.

@@ -1,6 +1,6 @@
-use Rattle.text.proofs.Numbers.{hex_spelt}
+use Rattle.text.proofs.Numbers.{digits_end}
 use Rattle.text.proofs.Stored.{stored_as}
 use Rattle.text_lines.proofs.put_hex.Goals as goal
 
 pub returns : goal.returns
-returns c = let d = c.hex-k.ensures in let r = c.requires in stored_as (hex_spelt _ _ _ _ _ r.0 r.1 r.2 c.from.ensures d.len d.digits) c.put.ensures
+returns c = stored_as (digits_end 16 _ 8 _ _ c.requires c.eight-digits.ensures) c.put.ensures
