@@ -52,23 +52,23 @@ fn is_negative(s: Screen, c: Command) -> bool
     (c.operation == 1) & (source < destination)
 }
 
-// How far behind the first of so many columns or lines the pixel stands that a command starts at.
-fn steps_behind(s: Screen, c: Command, size: u16) -> u32
-    ensures { (result ≡ cond (is_negative s c) (size - 1) 0) × (result ≤ 65534) }
+// How far behind the first of so many columns or lines the pixel stands that a command starts at, in negative direction or not.
+fn steps_behind(negative: bool, size: u16) -> u32
+    ensures { (result ≡ cond negative (size - 1) 0) × (result ≤ 65534) }
 {
-    if is_negative(s, c) {
+    if negative {
         return size.saturating_sub(1) as u32;
     }
     0
 }
 
 // The chip's operation.
-fn operation_value(s: Screen, c: Command) -> u64
-    ensures { (result ≡ by_operation c.operation 12 (cond (is_negative s c) 3 2) 0 6 7 5) × (result ≤ 12) }
+fn operation_value(c: Command, negative: bool) -> u64
+    ensures { (result ≡ by_operation c.operation 12 (cond negative 3 2) 0 6 7 5) × (result ≤ 12) }
 {
     match c.operation {
         0 => 12,
-        1 => { if is_negative(s, c) { 3 } else { 2 } }
+        1 => { if negative { 3 } else { 2 } }
         2 => 0,
         3 => 6,
         4 => 7,
@@ -78,10 +78,11 @@ fn operation_value(s: Screen, c: Command) -> u64
 
 // The value of 8008h.
 #[tactic(auto, unfolding(command::specs::Values::command_value))]
-fn command_value(s: Screen, c: Command) -> u64
+fn command_value(s: Screen, c: Command, negative: bool) -> u64
+    requires { negative ≡ is_negative s c }
     ensures { result ≡ command_value s c }
 {
-    operation_value(s, c) + 65536 * c.raster as u64
+    operation_value(c, negative) + 65536 * c.raster as u64
 }
 
 // The address of pixel (x, y) of the pattern at an address.
@@ -103,22 +104,24 @@ fn pattern_value(s: Screen, c: Command) -> u64
 // The address of the pixel that a command starts at, of a rectangle whose upper left pixel is (x, y).
 #[inline(always)]
 #[tactic(auto, unfolding(command::specs::Values::last_column, command::specs::Values::last_line))]
-fn start_value(s: Screen, c: Command, x: u16, y: u16) -> u64
+fn start_value(s: Screen, c: Command, negative: bool, x: u16, y: u16) -> u64
+    requires { negative ≡ is_negative s c }
     ensures { result ≡ address_of s.depth (surface_of s c) (x + last_column s c) (y + last_line s c) }
 {
-    let column = x as u32 + steps_behind(s, c, c.width);
-    let line = y as u32 + steps_behind(s, c, c.height);
+    let column = x as u32 + steps_behind(negative, c.width);
+    let line = y as u32 + steps_behind(negative, c.height);
     pixel_address(s, c, column, line)
 }
 
 // The value of 800Ch.
 #[tactic(auto, unfolding(command::specs::Values::source_value))]
-fn source_value(s: Screen, c: Command) -> u64
+fn source_value(s: Screen, c: Command, negative: bool) -> u64
+    requires { negative ≡ is_negative s c }
     ensures { result ≡ source_value s c }
 {
     match c.operation {
         0 | 2 => 0,
-        1 => start_value(s, c, c.sx, c.sy),
+        1 => start_value(s, c, negative, c.sx, c.sy),
         3 | 4 => pattern_value(s, c),
         _ => source_of(s, c),
     }
@@ -126,10 +129,11 @@ fn source_value(s: Screen, c: Command) -> u64
 
 // The value of 8010h.
 #[tactic(auto, unfolding(command::specs::Values::destination_value))]
-fn destination_value(s: Screen, c: Command) -> u64
+fn destination_value(s: Screen, c: Command, negative: bool) -> u64
+    requires { negative ≡ is_negative s c }
     ensures { result ≡ destination_value s c }
 {
-    start_value(s, c, c.x, c.y)
+    start_value(s, c, negative, c.x, c.y)
 }
 
 // The value of 8020h: only operations 4 and 5 use it.
@@ -168,9 +172,10 @@ pub fn blit_values(s: Screen, c: Command) -> [u64; 9]
     ensures { result ≡ blit_values s c }
 {
     let on = surface_of(s, c);
-    let command = command_value(s, c);
-    let source = source_value(s, c);
-    let destination = destination_value(s, c);
+    let negative = is_negative(s, c);
+    let command = command_value(s, c, negative);
+    let source = source_value(s, c, negative);
+    let destination = destination_value(s, c, negative);
     let offset = on.line as u64 / 2;
     let width = c.width.saturating_sub(1) as u64;
     let height = c.height.saturating_sub(1) as u64;
