@@ -20,7 +20,7 @@ fn fill_pixels<const BYTES: usize>(line: &mut [u8], width: usize, colour: u16)
     }
 }
 
-// The bytes from an address on, copied to the start of a line.
+// The bytes from an address on, copied to the start of a line, one by one: `copy_from_slice` makes the C library need memmove.
 pub fn copy_bytes(from: &[u8], at: usize, size: usize, to: &mut [u8])
     requires { (size ≤ length to.old) × (at + size ≤ length from.now) }
     ensures { to.new ≡ copied from.now at size to.old }

@@ -23,7 +23,7 @@ pub fn is_list(form: u32, list: &[u8]) -> bool
     ((form == 32) | (form == 48)) & ((over == 0) & (n <= 64 * size))
 }
 
-// The record in the long form: a short one with zeros behind it.
+// The record in the long form: a short one with zeros behind it. Each copy is of a known length, since one that is known only when it runs is a call.
 fn in_long_form(b: &[u8]) -> [u8; 48]
     requires { is_form (length b.now) ≡ true }
     ensures { result ≡ over b.now (replicate 48 0) }

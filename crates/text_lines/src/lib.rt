@@ -20,7 +20,7 @@ fn letter(x: u32) -> u8
     if d < 10 { 48 + d as u8 } else { 87 + d as u8 }
 }
 
-// The last eight hexadecimal digits of a number.
+// The last eight hexadecimal digits of a number, without a loop: io::hex divides for each digit.
 fn eight(n: u32) -> [u8; 8]
     ensures { result ≡ last_digits 16 8 n }
 {
