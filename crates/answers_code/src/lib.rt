@@ -4,14 +4,14 @@
 
 ghost use Rattle.std.specs.Prelude.{◌≡◌, ◌^◌, ◌<◌};
 ghost use Rattle.screen.specs.Narrow.{Narrow};
-ghost use Rattle.compiler.specs.Compile.{compiling_of};
-ghost use Rattle.chip.specs.Play.{playing_of};
-ghost use Rattle.reader.specs.Read.{reading_of};
-ghost use Rattle.unit.specs.Draw.{drawing_of};
+ghost use Rattle.compiler.specs.Compile.{compiling_by};
+ghost use Rattle.chip.specs.Play.{playing_by};
+ghost use Rattle.reader.specs.Read.{reading_by};
+ghost use Rattle.unit.specs.Draw.{drawing_by};
 ghost use Rattle.serial.specs.Serial.{answer_of};
-ghost use Rattle.ring.specs.Kept.{telling_of};
-ghost use Rattle.wear.specs.Font.{finding_of};
-ghost use Rattle.wear.specs.Strip.{stripping_of};
+ghost use Rattle.ring.specs.Kept.{telling_by};
+ghost use Rattle.wear.specs.Font.{finding_by};
+ghost use Rattle.wear.specs.Strip.{stripping_by};
 ghost use Rattle.form.specs.Turn.{turned_of};
 ghost use Rattle.refusal.specs.Number.{number_of};
 ghost use Rattle.answers.specs.Answers.{compiled_of, point_of, drawn_of, values_in, hour_given, strip_given, glyph_given};
@@ -20,14 +20,14 @@ use answers::{S1dCompiled, S1dDrawn, S1dGlyph, S1dHour, S1dPoint, S1dStrip, S1dV
 use compiler::Compiled;
 use form::Turned;
 use reader::Point;
-use refusal::{Refusal, Refused};
+use refusal::{Numbered, Refusal};
 use screen::ScreenValues;
 use serial::Answer;
 use unit::Drawn;
 use wear::{Glyph, Made};
 
 // The number of an answer that gives nothing else: 0, or its refusal's.
-#[tactic(auto, unfolding(refusal::specs::Number::number_of))]
+#[tactic(auto, unfolding(refusal::specs::Number::number_by))]
 pub fn number_of(a: Result<(), Refusal>) -> u32
     ensures { result ≡ number_of a }
 {
@@ -38,8 +38,8 @@ pub fn number_of(a: Result<(), Refusal>) -> u32
 }
 
 // Compiling's answer, with the refused command's part of the list.
-pub fn compiled_of(form: u32, c: Result<Compiled, Refused>, list: &[u8]) -> S1dCompiled
-    ensures { result ≡ compiled_of form (compiling_of c) list.now }
+pub fn compiled_of<E: Numbered>(form: u32, c: Result<Compiled, E>, list: &[u8]) -> S1dCompiled
+    ensures { result ≡ compiled_of form (compiling_by E.number_in E.place_in c) list.now }
 {
     let part = compiler_code::part_of(form, list, c);
     match c {
@@ -54,8 +54,8 @@ pub fn compiled_of(form: u32, c: Result<Compiled, Refused>, list: &[u8]) -> S1dC
             part_length: part.length,
         },
         Err(refused) => S1dCompiled {
-            number: refused.refusal.number(),
-            place: refused.place,
+            number: refused.as_number(),
+            place: refused.as_place(),
             length: 0,
             depth: 0,
             rotation: 0,
@@ -67,9 +67,9 @@ pub fn compiled_of(form: u32, c: Result<Compiled, Refused>, list: &[u8]) -> S1dC
 }
 
 // Playing's answer.
-pub fn played_of(a: Result<ScreenValues, Refused>) -> Answer
-    requires { Narrow (playing_of a).values }
-    ensures { result ≡ answer_of (playing_of a) }
+pub fn played_of<E: Numbered>(a: Result<ScreenValues, E>) -> Answer
+    requires { Narrow (playing_by E.number_in E.place_in a).values }
+    ensures { result ≡ answer_of (playing_by E.number_in E.place_in a) }
 {
     match a {
         Ok(v) => Answer {
@@ -78,17 +78,17 @@ pub fn played_of(a: Result<ScreenValues, Refused>) -> Answer
             values: screen_values::six_values(v),
         },
         Err(fault) => Answer {
-            number: fault.refusal.number(),
-            place: fault.place,
+            number: fault.as_number(),
+            place: fault.as_place(),
             values: [0; 6],
         },
     }
 }
 
 // The point reader's answer.
-pub fn point_of(a: Result<Point, Refusal>) -> S1dPoint
-    requires { (reading_of a).address < 2 ^ 32 }
-    ensures { result ≡ point_of (reading_of a) }
+pub fn point_of<E: Numbered>(a: Result<Point, E>) -> S1dPoint
+    requires { (reading_by E.number_in a).address < 2 ^ 32 }
+    ensures { result ≡ point_of (reading_by E.number_in a) }
 {
     match a {
         Ok(point) => S1dPoint {
@@ -98,7 +98,7 @@ pub fn point_of(a: Result<Point, Refusal>) -> S1dPoint
             bit: point.bit,
         },
         Err(refusal) => S1dPoint {
-            number: refusal.number(),
+            number: refusal.as_number(),
             colour: 0,
             address: 0,
             bit: 0,
@@ -107,9 +107,9 @@ pub fn point_of(a: Result<Point, Refusal>) -> S1dPoint
 }
 
 // Drawing's answer.
-pub fn drawn_of(a: Result<Drawn, Refused>) -> S1dDrawn
-    requires { Narrow (drawing_of a).values }
-    ensures { result ≡ drawn_of (drawing_of a) }
+pub fn drawn_of<E: Numbered>(a: Result<Drawn, E>) -> S1dDrawn
+    requires { Narrow (drawing_by E.number_in E.place_in a).values }
+    ensures { result ≡ drawn_of (drawing_by E.number_in E.place_in a) }
 {
     match a {
         Ok(drawn) => S1dDrawn {
@@ -119,8 +119,8 @@ pub fn drawn_of(a: Result<Drawn, Refused>) -> S1dDrawn
             values: screen_values::six_values(drawn.values),
         },
         Err(why) => S1dDrawn {
-            number: why.refusal.number(),
-            place: why.place,
+            number: why.as_number(),
+            place: why.as_place(),
             length: 0,
             values: [0; 6],
         },
@@ -138,9 +138,9 @@ pub fn values_in(v: ScreenValues) -> S1dValues
 }
 
 // What is told of an hour.
-#[tactic(auto, unfolding(answers::specs::Answers::hour_given, ring::specs::Kept::telling_of))]
-pub fn hour_given(a: Result<Option<u32>, Refusal>) -> S1dHour
-    ensures { result ≡ hour_given (telling_of a) }
+#[tactic(auto, unfolding(answers::specs::Answers::hour_given, ring::specs::Kept::telling_by))]
+pub fn hour_given<E: Numbered>(a: Result<Option<u32>, E>) -> S1dHour
+    ensures { result ≡ hour_given (telling_by E.number_in a) }
 {
     match a {
         Ok(Some(height)) => S1dHour {
@@ -154,7 +154,7 @@ pub fn hour_given(a: Result<Option<u32>, Refusal>) -> S1dHour
             height: 0,
         },
         Err(refusal) => S1dHour {
-            number: refusal.number(),
+            number: refusal.as_number(),
             sampled: 0,
             height: 0,
         },
@@ -162,9 +162,9 @@ pub fn hour_given(a: Result<Option<u32>, Refusal>) -> S1dHour
 }
 
 // The answer of making a strip.
-#[tactic(auto, unfolding(answers::specs::Answers::strip_given, wear::specs::Strip::stripping_of))]
-pub fn strip_given(a: Result<Made, Refusal>) -> S1dStrip
-    ensures { result ≡ strip_given (stripping_of a) }
+#[tactic(auto, unfolding(answers::specs::Answers::strip_given, wear::specs::Strip::stripping_by))]
+pub fn strip_given<E: Numbered>(a: Result<Made, E>) -> S1dStrip
+    ensures { result ≡ strip_given (stripping_by E.number_in a) }
 {
     match a {
         Ok(made) => S1dStrip {
@@ -173,7 +173,7 @@ pub fn strip_given(a: Result<Made, Refusal>) -> S1dStrip
             words_length: made.words,
         },
         Err(refusal) => S1dStrip {
-            number: refusal.number(),
+            number: refusal.as_number(),
             list_length: 0,
             words_length: 0,
         },
@@ -181,9 +181,9 @@ pub fn strip_given(a: Result<Made, Refusal>) -> S1dStrip
 }
 
 // Where a digit's glyph stands.
-#[tactic(auto, unfolding(answers::specs::Answers::glyph_given, wear::specs::Font::finding_of))]
-pub fn glyph_given(a: Result<Glyph, Refusal>) -> S1dGlyph
-    ensures { result ≡ glyph_given (finding_of a) }
+#[tactic(auto, unfolding(answers::specs::Answers::glyph_given, wear::specs::Font::finding_by))]
+pub fn glyph_given<E: Numbered>(a: Result<Glyph, E>) -> S1dGlyph
+    ensures { result ≡ glyph_given (finding_by E.number_in a) }
 {
     match a {
         Ok(Glyph::Site(at)) => S1dGlyph {
@@ -199,7 +199,7 @@ pub fn glyph_given(a: Result<Glyph, Refusal>) -> S1dGlyph
             length: 8,
         },
         Err(refusal) => S1dGlyph {
-            number: refusal.number(),
+            number: refusal.as_number(),
             site: 0,
             at: 0,
             length: 0,

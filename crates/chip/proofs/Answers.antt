@@ -8,7 +8,7 @@ use native.Mathlib.Omega.{arith}
 use borrow.Author.Tests.{eq-eqb, ne_eqb}
 use Rattle.record.specs.Record.{records_of}
 use Rattle.screen.specs.declared.ScreenValues.{ScreenValues}
-use Rattle.chip.specs.Play.{new_chip, run, applied, Playing, refused_by, ending, playing, played, playing_of, answer_of}
+use Rattle.chip.specs.Play.{new_chip, run, applied, Playing, refused_by, ending, playing, played, playing_of, playing_by, answer_of}
 use Rattle.chip.specs.Play.{Running}
 use Rattle.std.specs.Prelude.{Ok, Err}
 use Rattle.refusal.specs.Number as refusals
@@ -34,7 +34,7 @@ module _ (m : ℕ) (stream memory : List ℕ) where
   -- what a refusal shows
   pub refuses : (r : Refused) → playing m stream memory ≡ refused_by (refusals.number r.refusal) r.place
       → (playing_of (Err r) ≡ playing m stream memory) × ((Err r ≡ answer_of (playing m stream memory)) × (memory ≡ played m stream memory))
-  unfolding playing_of answer_of played
+  unfolding playing_by answer_of played
   refuses r e =
       let h : refusals.number r.refusal ≡ 0 → ⊥ = let p = number_positive r.refusal in λ z. omega (arith, p) in
       (sym e, (rw e (sym (refused_with_at _ r _ r.place refl refl)), rw (e, ne_eqb (refusals.number r.refusal) 0 h)))
@@ -42,7 +42,7 @@ module _ (m : ℕ) (stream memory : List ℕ) where
   -- what acceptance shows
   pub accepts : (v : ScreenValues) (new : List ℕ) → new ≡ applied new_chip (records_of stream) memory → playing m stream memory ≡ accepted_by_lem v
       → (playing_of (Ok v) ≡ playing m stream memory) × ((Ok v ≡ answer_of (playing m stream memory)) × (new ≡ played m stream memory))
-  unfolding playing_of answer_of played
+  unfolding playing_by answer_of played
   accepts v new q e = (sym e, (rw e (sym (accepted_at v 0 0 refl)), rw e q))
 
 pub end_refused : (r : Running) (n : ℕ) → (r.number ≡ 0 → ⊥) → ending r n ≡ refused_by r.number r.place

@@ -17,7 +17,7 @@ use Rattle.blit.specs.Words.{word_pixel, chip_word}
 use Rattle.chip.specs.Register.{listed, fits, screen_after, blit_after}
 use Rattle.chip.specs.Start.{operation, raster_code, bytes_of, source_of, destination_of, line_of, width_of, height_of, foreground_of, key_of, pattern_base, pattern_line, pattern_column, source_fits, startable, span, within, mix_by, from_by, job_of, write_of, started}
 use Rattle.chip.specs.Admit.{admit_rows, refusal, due_after, due_of, chip_after, effect}
-use Rattle.chip.specs.Play.{new_chip, run, applied, ending, playing, played, playing_of, answer_of, running_of}
+use Rattle.chip.specs.Play.{new_chip, run, applied, ending, playing, played, playing_of, playing_by, answer_of, running_of}
 use Rattle.chip.specs.declared.Registers.{Registers}
 use Rattle.chip.specs.declared.Chip.{Chip}
 use Rattle.std.specs.Prelude.{None, Some, Err}
@@ -342,7 +342,7 @@ pub refused_whole : (playing 8 (stream_bytes waiting) line8
     × (answer_of (playing 8 (stream_bytes waiting) line8) ≡ Err waited)
     × (playing_of (Err waited) ≡ playing 8 (stream_bytes waiting) line8)
     × (played 8 (stream_bytes waiting) line8 ≡ line8)
-unfolding first_of record_bytes stream_bytes record_at records_from records_of listed fits screen_after blit_after source_fits startable span within admit_rows refusal due_after due_of chip_after new_chip run ending playing played playing_of answer_of refusals.answered_at refusals.number refusals.refusal
+unfolding first_of record_bytes stream_bytes record_at records_from records_of listed fits screen_after blit_after source_fits startable span within admit_rows refusal due_after due_of chip_after new_chip run ending playing played playing_by answer_of refusals.answered_at refusals.number refusals.refusal
 refused_whole = (refl, refl, refl, refl)
 
 -- ---- a write, played: two lines of three pixels from address 1, four bytes apart, under exclusive or. Each line takes two words, the low

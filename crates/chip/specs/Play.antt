@@ -64,15 +64,19 @@ playing m stream memory =
 unfoldable pub played : ℕ → List ℕ → List ℕ → List ℕ
 played m stream memory = cond (eqb (playing m stream memory).number 0) (applied new_chip (records_of stream) memory) memory
 
--- 01's numbers of an answer: of a refusal all but number and place are 0
-unfoldable pub playing_of : Result ScreenValues Refused → Playing
-playing_of (Ok v) = record { number = 0; place = 0; values = v }
-playing_of (Err r) =
+-- the numbers of an answer, whose refusals have these numbers and places: of a refusal all but number and place are 0
+unfoldable pub playing_by : {E : Type 0} → (E → ℕ) → (E → ℕ) → Result ScreenValues E → Playing
+playing_by number_in place_in (Ok v) = record { number = 0; place = 0; values = v }
+playing_by number_in place_in (Err r) =
     record {
-      number = refusals.number r.refusal;
-      place = r.place;
+      number = number_in r;
+      place = place_in r;
       values = record { main = record { start = 0; offset = 0 }; window = record { start = 0; offset = 0 }; x = 0; y = 0 };
     }
+
+-- 01's numbers of an answer
+abbrev pub playing_of : Result ScreenValues Refused → Playing
+playing_of a = playing_by refusals.refused_number refusals.refused_place a
 
 -- the answer with these numbers
 unfoldable pub answer_of : Playing → Result ScreenValues Refused

@@ -171,7 +171,7 @@ pub fn starts_blit(r: Record) -> bool
 }
 
 // Why a register write is refused, in a memory of so many bytes.
-#[tactic(auto, unfolding(chip::specs::Admit::refusal, chip::specs::Admit::admit_rows, record::specs::Checks::first_of, refusal::specs::Number::number_of, refusal::specs::Number::number))]
+#[tactic(auto, unfolding(chip::specs::Admit::refusal, chip::specs::Admit::admit_rows, record::specs::Checks::first_of, refusal::specs::Number::number_by, refusal::specs::Number::number))]
 fn register_refusal(memory: u64, c: Chip, r: Record) -> Result<(), Refusal>
     requires { is_data r ≡ false }
     ensures { number_of result ≡ refusal memory c r }
@@ -200,7 +200,7 @@ fn register_refusal(memory: u64, c: Chip, r: Record) -> Result<(), Refusal>
 }
 
 // Why a record is refused, in a memory of so many bytes.
-#[tactic(auto, unfolding(chip::specs::Admit::refusal, chip::specs::Admit::admit_rows, record::specs::Checks::first_of, refusal::specs::Number::number_of, refusal::specs::Number::number, chip::specs::Register::listed, chip::specs::Register::fits))]
+#[tactic(auto, unfolding(chip::specs::Admit::refusal, chip::specs::Admit::admit_rows, record::specs::Checks::first_of, refusal::specs::Number::number_by, refusal::specs::Number::number, chip::specs::Register::listed, chip::specs::Register::fits))]
 pub fn refusal_of(memory: u64, c: Chip, r: Record) -> Result<(), Refusal>
     ensures { number_of result ≡ refusal memory c r }
 {

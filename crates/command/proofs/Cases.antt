@@ -378,5 +378,5 @@ pub answers : (command_answer memory_size (screen 8 8 4) 0 fill ≡ Ok (command 
     × (command_answer memory_size (screen 8 8 4) 3 write ≡ Err FewWords)
     × (refusals.number_of {A = Command} (Ok (command 0 0 0 2 1 3 2 0 0 0)) ≡ 0)
     × (refusals.number_of {A = Command} (Err FewWords) ≡ 15)
-unfolding all_zero first_of view_width view_height main_image window_image surface_of address_of destination_of source_of command_of must_be_zero pattern_fits formed inside_image placed any_of share_byte clashes line_words words_taken command_rows refusal command_answer refusals.answered refusals.number refusals.refusal refusals.number_of
+unfolding all_zero first_of view_width view_height main_image window_image surface_of address_of destination_of source_of command_of must_be_zero pattern_fits formed inside_image placed any_of share_byte clashes line_words words_taken command_rows refusal command_answer refusals.answered refusals.number refusals.refusal refusals.number_by
 answers = (refl, refl, refl, refl)

@@ -10,7 +10,7 @@ ghost use Rattle.command.specs.Task.{is_form, is_list};
 ghost use Rattle.refusal.specs.Number.{number, number_of};
 
 use command::Command;
-use refusal::Refusal;
+use refusal::{Numbered, Refusal};
 use screen::{Image, MEMORY_SIZE, Screen};
 
 // Refusal 10: whether a list has whole records, at most 64, in a form that there is.
@@ -181,18 +181,10 @@ pub fn words_taken(s: Screen, c: Command) -> u32
 }
 
 // Whether a refusal names the command that is refused.
-#[tactic(auto, unfolding(refusal::specs::Number::number))]
-pub fn names_command(r: Refusal) -> bool
-    ensures { result ≡ names_command (number r) }
+pub fn names_command<E: Numbered>(why: E) -> bool
+    ensures { result ≡ names_command (E.number_in why) }
 {
-    matches!(
-        r,
-        Refusal::CommandForm
-            | Refusal::EmptyRectangle
-            | Refusal::Outside
-            | Refusal::FewWords
-            | Refusal::Shared
-    )
+    matches!(why.as_number(), 12..=15 | 29)
 }
 
 // The first of 12 to 15 and 29 that holds, with so many host words left.

@@ -10,7 +10,7 @@ use Rattle.command.specs.Task.{Task}
 use Rattle.std.specs.Prelude.{Result, Ok}
 use Rattle.refusal.specs.declared.Refused.{Refused}
 use Rattle.compiler.specs.declared.Compiled.{Compiled}
-use Rattle.compiler.specs.Compile.{Compiling, compiling_of, numbers_of}
+use Rattle.compiler.specs.Compile.{Compiling, compiling_of, compiling_by, numbers_of}
 use Rattle.compiler.proofs.Accepted.{compiled_says}
 use Rattle.older.proofs.Outcome.{answer_is, has_room}
 use Rattle.compile.specs.Chip.{compiling_for}
@@ -24,7 +24,7 @@ fits false t room e =
     omega (arith, a.fits, ap (λ (x : Compiling). x.length) a.given)
 
 pub accepted_fits : (older : Bool) (t : Task) (room : ℕ) (c : Compiled) (r : Result Compiled Refused) → compiling_of r ≡ compiling_for older t room → r ≡ Ok c → c.length ≤ room
-unfolding compiling_of
+unfolding compiling_by
 accepted_fits older t room c r e is =
     let k : compiling_of (Ok c) ≡ compiling_for older t room = sym (ap compiling_of is) ∙ e in
     let zero : (compiling_for older t room).number ≡ 0 = sym (ap (λ (x : Compiling). x.number) k) in

@@ -11,7 +11,7 @@ use borrow.Author.Tests.{eqb-true, eq-eqb, ne_eqb}
 use Rattle.record.specs.Checks.{Refusal}
 use Rattle.record.proofs.Stores.{sets_over}
 use Rattle.screen.specs.declared.Screen.{Screen}
-use Rattle.compiler.specs.Compile.{Compiling, refused_by, answered, buffer_with, compiling_of, answer_of}
+use Rattle.compiler.specs.Compile.{Compiling, refused_by, answered, buffer_with, compiling_of, compiling_by, answer_of}
 use Rattle.compiler.specs.declared.Compiled.{Compiled}
 use Rattle.std.specs.Prelude.{Result, Ok, Err}
 use Rattle.refusal.specs.Number as refusals
@@ -45,7 +45,7 @@ ToldBy c stream old r new = (compiling_of r ≡ c) × ((r ≡ answer_of c) × (n
 
 module _ (r : Refusal) (s : Screen) (size : ℕ) (stream old : List ℕ) where
   pub refused_by_lem : (x : Refused) → r ≡ record { number = refusals.number x.refusal; place = x.place } → ToldBy (answered r s size) stream old (Err x) old
-  unfolding compiling_of answer_of
+  unfolding compiling_by answer_of
   refused_by_lem x e =
       let p = number_positive x.refusal in
       let z : eqb (refusals.number x.refusal) 0 ≡ false = ne_eqb (refusals.number x.refusal) 0 (λ z. omega (arith, p)) in
@@ -53,7 +53,7 @@ module _ (r : Refusal) (s : Screen) (size : ℕ) (stream old : List ℕ) where
 
   pub accepted_by : r.number ≡ 0 → length stream ≤ length old → (new : List ℕ) → new ≡ sets old 0 stream
       → ToldBy (answered r s size) stream old (Ok (record { length = size; depth = s.depth; rotation = s.rotation; flag = s.flag })) new
-  unfolding compiling_of answer_of
+  unfolding compiling_by answer_of
   accepted_by e h new f = rw e (refl, (sym (accepted_at _ 0 0 refl), f ∙ sets_over old stream h))
 
 -- ---- the stream in the length that an answer gives

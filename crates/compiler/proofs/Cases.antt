@@ -18,7 +18,7 @@ use Rattle.command.specs.Values.{is_negative, last_column, last_line, command_va
 use Rattle.command.specs.Task.{short_form, long_form, task, list_rows, first_refusal, all_words, word_rows, task_refusal}
 use Rattle.command.proofs.Tasks.{panel, bad_window, fill, move, write, strange, empty, outside, hatched, overdrawn, times, long, four_words}
 use Rattle.compiler.specs.Stream.{records_with, screen_records, data_records, command_records, draw_records, records_for}
-use Rattle.compiler.specs.Compile.{room_rows, refusal_of, compiling, stream_of, buffer_after, compiling_of, answer_of, numbers_of}
+use Rattle.compiler.specs.Compile.{room_rows, refusal_of, compiling, stream_of, buffer_after, compiling_of, compiling_by, answer_of, numbers_of}
 use Rattle.compiler.specs.Part.{part_from, part_size}
 use Rattle.compiler.specs.declared.Compiled.{Compiled}
 use Rattle.std.specs.Prelude.{Ok, Err}
@@ -189,5 +189,10 @@ pub answers : (compiling_of (Err outside_7) ≡ record { number = 14; place = 7;
     × (compiling_of (Ok bytes_120) ≡ record { number = 0; place = 0; length = 120; depth = 8; rotation = 1; flag = 0 })
     × (answer_of (record { number = 14; place = 7; length = 0; depth = 0; rotation = 0; flag = 0 }) ≡ Err outside_7)
     × (answer_of (record { number = 0; place = 0; length = 120; depth = 8; rotation = 1; flag = 0 }) ≡ Ok bytes_120)
-unfolding compiling_of answer_of refusals.answered_at refusals.number refusals.refusal
+unfolding compiling_by answer_of refusals.answered_at refusals.number refusals.refusal
 answers = (refl, refl, refl, refl)
+
+-- a refusal that is no name, but any number and place
+pub by_number : compiling_by {E = ℕ × ℕ} (λ r. r.0) (λ r. r.1) (Err (31, 5)) ≡ record { number = 31; place = 5; length = 0; depth = 0; rotation = 0; flag = 0 }
+unfolding compiling_by
+by_number = refl

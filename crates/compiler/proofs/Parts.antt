@@ -12,12 +12,10 @@ use borrow.Author.Tests.{ltb-true}
 use Rattle.record.proofs.Choice.{and_right}
 use Rattle.command.specs.Command.{names_command}
 use Rattle.command.proofs.Forms.{part_ends}
-use Rattle.compiler.specs.Compile.{Compiling, compiling_of}
+use Rattle.compiler.specs.Compile.{Compiling, compiling_by}
 use Rattle.compiler.specs.Part.{of_command, part_from, part_size, RefusedPart}
 use Rattle.compiler.specs.declared.Compiled.{Compiled}
 use Rattle.std.specs.Prelude.{Result, Ok, Err}
-use Rattle.refusal.specs.Number as refusals
-use Rattle.refusal.specs.declared.Refused.{Refused}
 
 -- the place of a part is one of the list's, and the part ends in the list
 module _ (size : ℕ) (list : List ℕ) (c : Compiling) where
@@ -33,24 +31,24 @@ module _ (size : ℕ) (list : List ℕ) (c : Compiling) where
       chosen false f = omega arith
 
 -- start and length by the answer
-module _ (size : ℕ) (list : List ℕ) (a : Result Compiled Refused) where
+module _ {E : Type 0} (number_in place_in : E → ℕ) (size : ℕ) (list : List ℕ) (a : Result Compiled E) where
   abbrev Stands : ℕ → ℕ → Type 0
-  Stands at n = (at ≡ part_from size list (compiling_of a)) × (n ≡ part_size size list (compiling_of a))
+  Stands at n = (at ≡ part_from size list (compiling_by number_in place_in a)) × (n ≡ part_size size list (compiling_by number_in place_in a))
 
   pub part_accepted : (c : Compiled) → a ≡ Ok c → Stands 0 0
-  unfolding part_from part_size compiling_of
+  unfolding part_from part_size compiling_by
   part_accepted c e = rw e (refl, refl)
 
-  module _ (r : Refused) (count : ℕ) (named : Bool) (e : a ≡ Err r) (h : named ≡ names_command (refusals.number r.refusal)) (k : count ≡ length list / size) where
+  module _ (r : E) (place count : ℕ) (named : Bool) (e : a ≡ Err r) (h : named ≡ names_command (number_in r)) (p : place ≡ place_in r) (k : count ≡ length list / size) where
     -- no command of the list is named
-    pub part_none : (named && ltb r.place count) ≡ false → Stands 0 0
-    unfolding part_from part_size compiling_of
-    part_none f = rw (e, ← h, ← k, f) (refl, refl)
+    pub part_none : (named && ltb place count) ≡ false → Stands 0 0
+    unfolding part_from part_size compiling_by
+    part_none f = rw (e, ← h, ← p, ← k, f) (refl, refl)
 
     -- the command that is named
-    pub part_some : (named && ltb r.place count) ≡ true → Stands (r.place * size) size
-    unfolding part_from part_size compiling_of
-    part_some f = rw (e, ← h, ← k, f) (refl, refl)
+    pub part_some : (n : ℕ) → n ≡ place_in r → (named && ltb place count) ≡ true → Stands (n * size) size
+    unfolding part_from part_size compiling_by
+    part_some n q f = rw (q, e, ← h, ← p, ← k, f) (refl, refl)
 
 -- the part from `at` on with n bytes
 pub part_is : (size : ℕ) (list r : Bor (List ℕ)) (c : Compiling) (at n : ℕ) → at ≡ part_from size list.now c → n ≡ part_size size list.now c → r.ref_ptr ≡ (list.ref_ptr.0, at + list.ref_ptr.1) → r.now ≡ take (at + n - at) (drop at list.now) → RefusedPart size list r c

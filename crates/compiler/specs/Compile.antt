@@ -52,10 +52,14 @@ buffer_with c stream old = cond (eqb c.number 0) (over stream old) old
 unfoldable pub buffer_after : ℕ → Task → List ℕ → List ℕ
 buffer_after m t old = buffer_with (compiling m t (length old)) (stream_of t) old
 
--- 01's numbers of an answer: of a refusal all but number and place are 0
-unfoldable pub compiling_of : Result Compiled Refused → Compiling
-compiling_of (Ok c) = record { number = 0; place = 0; length = c.length; depth = c.depth; rotation = c.rotation; flag = c.flag }
-compiling_of (Err r) = record { number = refusals.number r.refusal; place = r.place; length = 0; depth = 0; rotation = 0; flag = 0 }
+-- the numbers of an answer, whose refusals have these numbers and places: of a refusal all but number and place are 0
+unfoldable pub compiling_by : {E : Type 0} → (E → ℕ) → (E → ℕ) → Result Compiled E → Compiling
+compiling_by number_in place_in (Ok c) = record { number = 0; place = 0; length = c.length; depth = c.depth; rotation = c.rotation; flag = c.flag }
+compiling_by number_in place_in (Err r) = record { number = number_in r; place = place_in r; length = 0; depth = 0; rotation = 0; flag = 0 }
+
+-- 01's numbers of an answer
+abbrev pub compiling_of : Result Compiled Refused → Compiling
+compiling_of c = compiling_by refusals.refused_number refusals.refused_place c
 
 -- the answer with these numbers
 unfoldable pub answer_of : Compiling → Result Compiled Refused

@@ -4,11 +4,11 @@
 ghost use Rattle.std.specs.Prelude.{◌≡◌, length};
 ghost use Rattle.screen.specs.Screen.{memory_size};
 ghost use Rattle.command.specs.Task.{task};
-ghost use Rattle.compiler.specs.Compile.{compiling, buffer_after, compiling_of, answer_of, numbers_of};
+ghost use Rattle.compiler.specs.Compile.{compiling, buffer_after, compiling_by, compiling_of, answer_of, numbers_of};
 ghost use Rattle.compiler.specs.Part.{part_from, part_size, RefusedPart};
 
 use compiler::{Compiled, Part};
-use refusal::{Refusal, Refused};
+use refusal::{Numbered, Refusal, Refused};
 
 // Compiles: the stream's length with the screen's depth, rotation and flag, or a refusal. The stream buffer then holds
 // the stream, or its old bytes.
@@ -46,13 +46,13 @@ pub fn compile_into(
 }
 
 // Where the command stands in the list that an answer refuses; else no bytes, at the list's start.
-pub fn part_of(form: u32, list: &[u8], c: Result<Compiled, Refused>) -> Part
-    ensures { (result.at ≡ part_from form list.now (compiling_of c)) × (result.length ≡ part_size form list.now (compiling_of c)) }
+pub fn part_of<E: Numbered>(form: u32, list: &[u8], c: Result<Compiled, E>) -> Part
+    ensures { (result.at ≡ part_from form list.now (compiling_by E.number_in E.place_in c)) × (result.length ≡ part_size form list.now (compiling_by E.number_in E.place_in c)) }
 {
     let count = record_code::quotient(list.len() as u64, form as u64);
     match c {
-        Err(r) if command_code::names_command(r.refusal) & (r.place < count) => Part {
-            at: r.place * form as u64,
+        Err(r) if command_code::names_command(r) & (r.as_place() < count) => Part {
+            at: r.as_place() * form as u64,
             length: form as u64,
         },
         _ => Part { at: 0, length: 0 },
@@ -60,8 +60,8 @@ pub fn part_of(form: u32, list: &[u8], c: Result<Compiled, Refused>) -> Part
 }
 
 // The part of the list that an answer refuses; else an empty part, at the list's start.
-pub fn refused_part<'a>(form: u32, list: &'a [u8], c: Result<Compiled, Refused>) -> &'a [u8]
-    ensures { RefusedPart form list.entry result (compiling_of c) }
+pub fn refused_part<'a, E: Numbered>(form: u32, list: &'a [u8], c: Result<Compiled, E>) -> &'a [u8]
+    ensures { RefusedPart form list.entry result (compiling_by E.number_in E.place_in c) }
 {
     let p = part_of(form, list, c);
     let at = p.at as usize;
@@ -70,8 +70,8 @@ pub fn refused_part<'a>(form: u32, list: &'a [u8], c: Result<Compiled, Refused>)
 }
 
 // Stores an answer's numbers.
-pub fn store(answer: &mut [u64; 6], c: Result<Compiled, Refused>)
-    ensures { answer.new ≡ numbers_of (compiling_of c) }
+pub fn store<E: Numbered>(answer: &mut [u64; 6], c: Result<Compiled, E>)
+    ensures { answer.new ≡ numbers_of (compiling_by E.number_in E.place_in c) }
 {
     *answer = match c {
         Ok(c) => [
@@ -82,7 +82,7 @@ pub fn store(answer: &mut [u64; 6], c: Result<Compiled, Refused>)
             c.rotation as u64,
             c.flag as u64,
         ],
-        Err(r) => [r.refusal.number() as u64, r.place, 0, 0, 0, 0],
+        Err(r) => [r.as_number() as u64, r.as_place(), 0, 0, 0, 0],
     };
 }
 

@@ -6,7 +6,7 @@
 ghost use Rattle.io.specs.Counts.{IsPrefixLen};
 
 use compiler::Compiled;
-use refusal::Refusal;
+use refusal::{Refusal, Refused};
 use script::Tally;
 use std::io::Read;
 
@@ -73,13 +73,13 @@ fn run(rt: &impl Print, script: &[u8]) {
     let mut memory = script_steps::zeros();
     let mut kept = script_steps::zeros();
     // Before the first step: an empty stream, and nothing played.
-    let mut compiled = Ok(Compiled {
+    let mut compiled: Result<Compiled, Refused> = Ok(Compiled {
         length: 0,
         depth: 0,
         rotation: 0,
         flag: 0,
     });
-    let mut played = Err(Refusal::StreamLength.into());
+    let mut played = Err(Refused::from(Refusal::StreamLength));
     let mut tally = Tally {
         example: true,
         all: true,

@@ -18,7 +18,7 @@ use Rattle.screen.specs.Fields.{values_fit}
 use Rattle.screen.specs.declared.ScreenValues.{ScreenValues}
 use Rattle.view.specs.declared.Place.{Place}
 use Rattle.view.proofs.Reaches.{low_place}
-use Rattle.reader.specs.Read.{Reading, looked_at, dword_inside, read_rows, address_at, bit_at, read_at, refused_point, reading, reading_of, answer_of, Stands, Standing}
+use Rattle.reader.specs.Read.{Reading, looked_at, dword_inside, read_rows, address_at, bit_at, read_at, refused_point, reading, reading_of, reading_by, answer_of, Stands, Standing}
 use Rattle.reader.specs.Looking.{looking, seen, Seeable}
 use Rattle.reader.specs.declared.Display.{Display}
 use Rattle.reader.specs.declared.Spot.{Spot}
@@ -32,10 +32,10 @@ use Rattle.refusal.proofs.Numbers.{Listed, accepted, refused_with, number_positi
 
 -- what a place or a refusal gives: its number and its place; and the numbers of its answer are its own
 module _ (n depth : ℕ) (memory : List ℕ) (w : Place) where
-  number_by : (t : Bool) → eqb n 0 ≡ t → (cond t (read_at depth memory w) (refused_point n)).number ≡ n
+  number_chosen : (t : Bool) → eqb n 0 ≡ t → (cond t (read_at depth memory w) (refused_point n)).number ≡ n
   unfolding read_at refused_point
-  number_by true e = sym (eqb-true n 0 e)
-  number_by false e = refl
+  number_chosen true e = sym (eqb-true n 0 e)
+  number_chosen false e = refl
 
   place_by_lem : (t : Bool) → (cond t (read_at depth memory w) (refused_point n)).place ≡ 0
   unfolding read_at refused_point
@@ -43,13 +43,13 @@ module _ (n depth : ℕ) (memory : List ℕ) (w : Place) where
   place_by_lem false = refl
 
   back : (t : Bool) → eqb n 0 ≡ t → (0 < n → number (refusal n) ≡ n) → reading_of (answer_of (cond t (read_at depth memory w) (refused_point n))) ≡ cond t (read_at depth memory w) (refused_point n)
-  unfolding read_at refused_point reading_of answer_of refusals.answered
+  unfolding read_at refused_point reading_by answer_of refusals.answered
   back true e f = refl
   back false e f = let d = eqb-false n 0 e in rw e (ap (λ (k : ℕ). record { number = k; place = 0; colour = 0; address = 0; bit = 0 }) (f (omega (arith, d))))
 
 -- a refusal whose numbers are a reading's is the reading's answer
 pub refused_answer : (r : Refusal) (x : Reading) → refused_point (number r) ≡ x → (reading_of (Err r) ≡ x) × (Err r ≡ answer_of x)
-unfolding refused_point reading_of answer_of
+unfolding refused_point reading_by answer_of
 refused_answer r x e = (e, rw (← e) (sym (refused_with _ r (number r) refl)))
 
 -- 0 is the number of no row
@@ -74,7 +74,7 @@ module _ (m : ℕ) (d : Display) (v : ScreenValues) (p q : ℕ) (memory : List �
   -- its number is the first of the table's, and its place is 0
   pub number_is : (reading m d v p q memory).number ≡ first
   unfolding reading
-  number_is = number_by first d.depth memory (looked_at d v p q) (eqb first 0) refl
+  number_is = number_chosen first d.depth memory (looked_at d v p q) (eqb first 0) refl
 
   pub place_is : (reading m d v p q memory).place ≡ 0
   unfolding reading
@@ -246,7 +246,7 @@ module _ (m : ℕ) (d : Display) (v : ScreenValues) (p q : ℕ) (memory : List �
     read_looked r f = (answered m d v p q memory r (seen_looked r f)).0
 
 -- by which of the two it is
-module _ (depth : ℕ) (memory : List ℕ) (at : Result Spot Refusal) where
+module _ {E : Type 0} (depth : ℕ) (memory : List ℕ) (at : Result Spot E) where
   pub seeable_at : (s : Spot) → at ≡ Ok s → Seeable depth memory at → (is_depth depth ≡ true) × (s.address + max 1 (depth / 8) ≤ length memory) × (s.bit ≤ 7) × (min depth 8 ≤ s.bit + 1)
   unfolding Seeable
   seeable_at s e f = subst (Seeable depth memory) e f
@@ -255,7 +255,7 @@ module _ (depth : ℕ) (memory : List ℕ) (at : Result Spot Refusal) where
   unfolding seen
   seen_at s c e f = ap (λ (x : ℕ). Ok (record { colour = x; address = s.address; bit = s.bit })) f ∙ ap (seen depth memory) (sym e)
 
-  pub seen_nowhere : (r : Refusal) → at ≡ Err r → Err r ≡ seen depth memory at
+  pub seen_nowhere : (r : E) → at ≡ Err r → Err r ≡ seen depth memory at
   unfolding seen
   seen_nowhere r e = ap (seen depth memory) (sym e)
 

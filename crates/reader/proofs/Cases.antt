@@ -12,7 +12,7 @@ use Rattle.screen.specs.Screen.{panel_ok, view_width, whole_dwords}
 use Rattle.screen.specs.Fields.{values_fit}
 use Rattle.screen.specs.declared.ScreenValues.{ScreenValues}
 use Rattle.view.specs.Walk.{walk, in_window_by, corner_p, corner_q, place_of}
-use Rattle.reader.specs.Read.{read_rows, read_at, refused_point, reading, reading_of, answer_of}
+use Rattle.reader.specs.Read.{read_rows, read_at, refused_point, reading, reading_of, reading_by, answer_of}
 use Rattle.reader.specs.Line.{leftmost, line_number, line_after, point_rows, line_rows}
 use Rattle.reader.specs.Along.{all_inside, colours_from}
 use Rattle.reader.specs.declared.Display.{Display}
@@ -106,7 +106,7 @@ pub answers : (reading 16 (display 8 0 0 8 2) (values 0) 8 0 memory ≡ record {
     × (answer_of (reading 16 (display 8 0 0 8 2) (values 0) 1 0 memory) ≡ Ok (record { colour = 0x11; address = 1; bit = 7 }))
     × (reading_of (Err PanelPoint) ≡ record { number = 24; place = 0; colour = 0; address = 0; bit = 0 })
     × (reading_of (Ok (record { colour = 0x11; address = 1; bit = 7 })) ≡ record { number = 0; place = 0; colour = 0x11; address = 1; bit = 7 })
-unfolding first_of is_depth get_pixel dword_pixel pixel_bit panel_ok view_width whole_dwords values_fit walk in_window_by corner_p corner_q place_of read_rows read_at refused_point reading reading_of answer_of refusals.answered refusals.number refusals.refusal
+unfolding first_of is_depth get_pixel dword_pixel pixel_bit panel_ok view_width whole_dwords values_fit walk in_window_by corner_p corner_q place_of read_rows read_at refused_point reading reading_by answer_of refusals.answered refusals.number refusals.refusal
 answers = (refl, refl, refl, refl, refl)
 
 -- ---- panel lines

@@ -19,12 +19,12 @@ looking m d values p q n =
     let w = looked_at d values p q in
     answered k (record { address = address_at d.depth w; bit = bit_at d.depth w })
 
--- what the memory shows there
-unfoldable pub seen : ℕ → List ℕ → Result Spot Refusal → Result Point Refusal
+-- what the memory shows there; a refusal of any kind is handed on
+unfoldable pub seen : {E : Type 0} → ℕ → List ℕ → Result Spot E → Result Point E
 seen depth memory (Ok s) = Ok (record { colour = stored_pixel depth memory s.address s.bit; address = s.address; bit = s.bit })
 seen depth memory (Err r) = Err r
 
 -- the bits that are looked at are the memory's, of a pixel of the depth
-unfoldable pub Seeable : ℕ → List ℕ → Result Spot Refusal → Type 0
+unfoldable pub Seeable : {E : Type 0} → ℕ → List ℕ → Result Spot E → Type 0
 Seeable depth memory (Ok s) = (is_depth depth ≡ true) × (s.address + max 1 (depth / 8) ≤ length memory) × (s.bit ≤ 7) × (min depth 8 ≤ s.bit + 1)
 Seeable depth memory (Err r) = Unit {0}

@@ -74,10 +74,14 @@ reading m d values p q memory =
     let n = first_of (read_rows m d values p q (length memory)) in
     cond (eqb n 0) (read_at d.depth memory (looked_at d values p q)) (refused_point n)
 
--- the numbers of an answer
-unfoldable pub reading_of : Result Point Refusal → Reading
-reading_of (Ok p) = record { number = 0; place = 0; colour = p.colour; address = p.address; bit = p.bit }
-reading_of (Err r) = record { number = refusals.number r; place = 0; colour = 0; address = 0; bit = 0 }
+-- the numbers of an answer, whose refusals have these numbers
+unfoldable pub reading_by : {E : Type 0} → (E → ℕ) → Result Point E → Reading
+reading_by number_in (Ok p) = record { number = 0; place = 0; colour = p.colour; address = p.address; bit = p.bit }
+reading_by number_in (Err r) = record { number = number_in r; place = 0; colour = 0; address = 0; bit = 0 }
+
+-- 01's numbers of an answer
+abbrev pub reading_of : Result Point Refusal → Reading
+reading_of a = reading_by refusals.number a
 
 -- the answer with these numbers
 unfoldable pub answer_of : Reading → Result Point Refusal

@@ -92,8 +92,8 @@ pub fn look_for(
     })
 }
 
-// What the memory shows there.
-pub fn see(depth: u32, memory: &[u8], at: Result<Spot, Refusal>) -> Result<Point, Refusal>
+// What the memory shows there; a refusal, by name or by number, is handed on.
+pub fn see<E>(depth: u32, memory: &[u8], at: Result<Spot, E>) -> Result<Point, E>
     requires { Seeable depth memory.now at }
     ensures { result ≡ seen depth memory.now at }
 {

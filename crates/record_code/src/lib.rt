@@ -6,10 +6,10 @@ ghost use Rattle.std.proofs.lemmas.List.Edits.{sets};
 ghost use Rattle.record.specs.Bytes.{u16_at, u24_at, u32_at, four_bytes, all_zero};
 ghost use Rattle.record.specs.Record.{record_bytes, record_at};
 ghost use Rattle.record.specs.Checks.{any_of, first_of};
-ghost use Rattle.refusal.specs.Number.{number_of, rows_by, found_by};
+ghost use Rattle.refusal.specs.Number.{number_by, rows_from, found_by};
 
 use record::Record;
-use refusal::Refusal;
+use refusal::Numbered;
 
 // A byte as a wider number.
 pub fn wide(x: u8) -> u32
@@ -117,7 +117,7 @@ pub fn least(a: usize, b: usize) -> usize
 }
 
 // Whether one of the checks found something; all are looked at, as above.
-fn any_of(checks: &[(Refusal, bool)]) -> bool
+fn any_of<T>(checks: &[(T, bool)]) -> bool
     ensures { result ≡ any_of (found_by checks.now) }
 {
     let mut any = false;
@@ -127,9 +127,9 @@ fn any_of(checks: &[(Refusal, bool)]) -> bool
     any
 }
 
-// The refusal of the first check that found something, which is asked of all at once.
-pub fn first_of(checks: &[(Refusal, bool)]) -> Result<(), Refusal>
-    ensures { number_of result ≡ first_of (rows_by checks.now) }
+// The refusal, or the number, of the first check that found something, which is asked of all at once.
+pub fn first_of<T: Numbered>(checks: &[(T, bool)]) -> Result<(), T>
+    ensures { number_by T.number_in result ≡ first_of (rows_from T.number_in checks.now) }
 {
     if !any_of(checks) {
         return Ok(());

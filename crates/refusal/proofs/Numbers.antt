@@ -4,7 +4,7 @@ use mathlib.Core.Path.{refl, sym, ap, subst, ◌∙◌}
 use native.Mathlib.Omega.{arith}
 use borrow.Author.Tests.{eqb-true, eqb-false, eq-eqb, ne_eqb}
 use Rattle.record.specs.Checks.{Row, first_of}
-use Rattle.refusal.specs.Number.{number, refusal, number_of, answered, answered_at}
+use Rattle.refusal.specs.Number.{number, refusal, number_by, number_of, answered, answered_at, told_by}
 use Rattle.refusal.specs.declared.Refusal.{Refusal}
 use Rattle.refusal.specs.declared.Refusal.TheVariants.{ScreenRecord, Depth, Rotation, Panel, ViewWidth, MainImage, WindowPlace, WindowDwords, WindowImage, ListLength, ListDepth, CommandForm, EmptyRectangle, Outside, FewWords, WordsLeft, Room, MemoryLength, StreamLength, Register, Value, Reach, DataWord, Point, Address, LineLength, WearRange, LongOnly, Shared, Block}
 use Rattle.refusal.specs.declared.Refused.{Refused}
@@ -106,6 +106,12 @@ module _ {A : Type 0} (a : A) where
       ∙ ap (λ (t : Refusal). Err (record { refusal = t; place = place })) (ap refusal (sym e) ∙ refusal_number r.refusal)
       ∙ ap (λ (i : ℕ). Err (record { refusal = r.refusal; place = i })) (sym p)
 
+-- ---- an answer that tells of its refusal by itself is the answer
+pub told_self : {A : Type 0} (x : Result A Refused) → told_by (λ r. r) x ≡ x
+unfolding told_by
+told_self (Ok a) = refl
+told_self (Err r) = refl
+
 -- ---- tables whose numbers are refusals'
 unfoldable pub Listed : List Row → Type 0
 Listed [] = Unit {0}
@@ -122,16 +128,16 @@ first_listed (r ∷ rs) p h = chosen_listed r.fails r.number (first_of rs) p.0 (
 
 -- an answer by a table's first number has that number
 module _ {A : Type 0} (a : A) where
-  number_by : (t : Bool) (n : ℕ) → eqb n 0 ≡ t → (0 < n → number (refusal n) ≡ n) → number_of (answered n a) ≡ n
-  unfolding number_of answered
-  number_by true n e f = rw e (sym (eqb-true n 0 e))
-  number_by false n e f = rw e (f (positive n e))
+  numbered : (t : Bool) (n : ℕ) → eqb n 0 ≡ t → (0 < n → number (refusal n) ≡ n) → number_of (answered n a) ≡ n
+  unfolding number_by answered
+  numbered true n e f = rw e (sym (eqb-true n 0 e))
+  numbered false n e f = rw e (f (positive n e))
     where
       positive : (n : ℕ) → eqb n 0 ≡ false → 0 < n
       positive n e = let d = eqb-false n 0 e in omega (arith, d)
 
   pub number_answered : (rows : List Row) → Listed rows → number_of (answered (first_of rows) a) ≡ first_of rows
-  number_answered rows p = number_by (eqb (first_of rows) 0) (first_of rows) refl (first_listed rows p)
+  number_answered rows p = numbered (eqb (first_of rows) 0) (first_of rows) refl (first_listed rows p)
 
 -- what an accepted answer is
 accepted_chosen : {A : Type 0} (t : Bool) (n : ℕ) (a b : A) → eqb n 0 ≡ t → cond t (Ok a) (Err (refusal n)) ≡ Ok b → (n ≡ 0) × (b ≡ a)

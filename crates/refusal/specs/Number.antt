@@ -72,10 +72,14 @@ refusal n =
     (cond (eqb n 29) Shared
     Block))))))))))))))))))))))))))))
 
--- 01's number of an answer: 0 where it is accepted
-unfoldable pub number_of : {A : Type 0} → Result A Refusal → ℕ
-number_of (Ok a) = 0
-number_of (Err r) = number r
+-- the number of an answer, whose refusals have these numbers: 0 where it is accepted
+unfoldable pub number_by : {E A : Type 0} → (E → ℕ) → Result A E → ℕ
+number_by number_in (Ok a) = 0
+number_by number_in (Err r) = number_in r
+
+-- 01's number of an answer
+abbrev pub number_of : {A : Type 0} → Result A Refusal → ℕ
+number_of a = number_by number a
 
 -- the answer by a number: what is accepted, or the refusal with that number
 unfoldable pub answered : {A : Type 0} → ℕ → A → Result A Refusal
@@ -94,16 +98,32 @@ unfoldable pub place_at : Option Refused → ℕ
 place_at None = 0
 place_at (Some r) = r.place
 
--- the rows of a table from its refusals and what the checks found
-unfoldable pub rows_by : List (Refusal × Bool) → List Row
-rows_by [] = []
-rows_by (c ∷ cs) = row (number c.0) c.1 ∷ rows_by cs
+-- number and place of a refusal
+abbrev pub refused_number : Refused → ℕ
+refused_number r = number r.refusal
+
+abbrev pub refused_place : Refused → ℕ
+refused_place r = r.place
+
+-- an answer with what tells of its refusal in the refusal's place
+unfoldable pub told_by : {A E : Type 0} → (Refused → E) → Result A Refused → Result A E
+told_by told (Ok a) = Ok a
+told_by told (Err r) = Err (told r)
+
+-- the rows of a table from its refusals, which have these numbers, and what the checks found
+unfoldable pub rows_from : {E : Type 0} → (E → ℕ) → List (E × Bool) → List Row
+rows_from number_in [] = []
+rows_from number_in (c ∷ cs) = row (number_in c.0) c.1 ∷ rows_from number_in cs
+
+-- with 01's numbers
+abbrev pub rows_by : List (Refusal × Bool) → List Row
+rows_by cs = rows_from number cs
 
 -- x is the refusal r, and names no place
 abbrev pub Nowhere : Refusal → Refused → Type 0
 Nowhere r x = x ≡ record { refusal = r; place = 0 }
 
 -- what the checks found
-unfoldable pub found_by : List (Refusal × Bool) → List Bool
+unfoldable pub found_by : {E : Type 0} → List (E × Bool) → List Bool
 found_by [] = []
 found_by (c ∷ cs) = c.1 ∷ found_by cs

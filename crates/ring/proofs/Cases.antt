@@ -6,7 +6,7 @@ use mathlib.Core.Bool.{Bool, true, false}
 use mathlib.Core.List.{List, [], ◌∷◌, ◌++◌, map}
 use lib.ListN.{length, set, replicate}
 use Rattle.ring.specs.Samples.{Sample, is_taken, taken_after, accepted, newest_of, Telling, hour_before, telling, AllSequences}
-use Rattle.ring.specs.Kept.{empty_ring, takes, hours_on, blanked, with_sample, taking, slot_hour, hour_in, telling_of, hour_of, ring_after, heights_of, ring_in, cells_of}
+use Rattle.ring.specs.Kept.{empty_ring, takes, hours_on, blanked, with_sample, taking, slot_hour, hour_in, telling_of, telling_by, hour_of, ring_after, heights_of, ring_in, cells_of}
 use Rattle.ring.specs.Claims.{is_none}
 use Rattle.ring.specs.declared.Ring.{Ring}
 use Rattle.std.specs.Prelude.{None, Some, Ok, Err}
@@ -169,7 +169,7 @@ odd_told = refl
 
 pub answer_numbers : (map (λ h. three (telling_of h)) (Ok (Some 5) ∷ Ok None ∷ Err WearRange ∷ []) ≡ height 5 ∷ none ∷ past ∷ [])
     × (map hour_of (telling_of (Ok (Some 0)) ∷ telling_of (Ok None) ∷ telling_of (Err WearRange) ∷ []) ≡ Ok (Some 0) ∷ Ok None ∷ Err WearRange ∷ [])
-unfolding telling_of hour_of refusals.answered refusals.number refusals.refusal
+unfolding telling_by hour_of refusals.answered refusals.number refusals.refusal
 answer_numbers = (refl, refl)
 
 abbrev cells : List ℕ

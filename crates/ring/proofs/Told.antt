@@ -10,7 +10,7 @@ use lib.Dec.{leb, eqb}
 use borrow.Author.Tests.{le-leb, lt-leb, leb-true}
 use Rattle.record.proofs.Choice.{and_left, and_right}
 use Rattle.ring.specs.Samples.{steps_to, Telling, not_told}
-use Rattle.ring.specs.Kept.{slot_of, slot_hour, hour_in, telling_of, hour_of, ring_in}
+use Rattle.ring.specs.Kept.{slot_of, slot_hour, hour_in, telling_of, telling_by, hour_of, ring_in}
 use Rattle.ring.specs.declared.Ring.{Ring}
 use Rattle.std.specs.Prelude.{Option, None, Some, Result, Ok, Err}
 use Rattle.refusal.specs.Number as refusals
@@ -32,11 +32,11 @@ Answers h t = (telling_of h ≡ t) × (h ≡ hour_of t)
 
 module _ (any newest number held age at : ℕ) (steps : at ≡ steps_to number newest) where
   pub answer_held : is_held any at held age ≡ true → Answers (Ok (Some (held - 1))) (slot_hour any newest number held age)
-  unfolding telling_of hour_of slot_hour refusals.answered
+  unfolding telling_by hour_of slot_hour refusals.answered
   answer_held h = let t : is_held any (steps_to number newest) held age ≡ true = rw steps at h in (rw t, rw t)
 
   pub answer_blank : is_held any at held age ≡ false → Answers (Ok None) (slot_hour any newest number held age)
-  unfolding telling_of hour_of slot_hour refusals.answered
+  unfolding telling_by hour_of slot_hour refusals.answered
   answer_blank h = let t : is_held any (steps_to number newest) held age ≡ false = rw steps at h in (rw t, rw t)
 
 -- the hour of an age up to 511 is told from its slot
@@ -69,5 +69,5 @@ unfolding hour_in
 hour_past r age h = rw (lt-leb age 511 h)
 
 pub refuses : (r : Ring) (age : ℕ) → 511 < age → Answers (Err WearRange) (hour_in r age)
-unfolding telling_of hour_of refusals.answered refusals.number refusals.refusal
+unfolding telling_by hour_of refusals.answered refusals.number refusals.refusal
 refuses r age h = answers (Err WearRange) (hour_past r age h) (refl, refl)

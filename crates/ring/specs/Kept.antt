@@ -59,11 +59,15 @@ hour_in r age =
     let k = slot_of r.newest age in
     cond (leb age 511) (slot_hour r.any r.newest (get_or r.numbers k 0) (get_or r.heights k 0) age) (not_told 27)
 
--- the numbers of an answer
-unfoldable pub telling_of : Result (Option ℕ) Refusal → Telling
-telling_of (Ok (Some h)) = record { number = 0; sampled = 1; height = h }
-telling_of (Ok None) = record { number = 0; sampled = 0; height = 0 }
-telling_of (Err r) = record { number = number r; sampled = 0; height = 0 }
+-- the numbers of an answer, whose refusals have these numbers
+unfoldable pub telling_by : {E : Type 0} → (E → ℕ) → Result (Option ℕ) E → Telling
+telling_by number_in (Ok (Some h)) = record { number = 0; sampled = 1; height = h }
+telling_by number_in (Ok None) = record { number = 0; sampled = 0; height = 0 }
+telling_by number_in (Err r) = record { number = number_in r; sampled = 0; height = 0 }
+
+-- 01's numbers of an answer
+abbrev pub telling_of : Result (Option ℕ) Refusal → Telling
+telling_of a = telling_by number a
 
 -- the answer with these numbers
 unfoldable pub hour_of : Telling → Result (Option ℕ) Refusal

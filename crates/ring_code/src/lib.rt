@@ -209,7 +209,7 @@ pub fn hour_in(cells: &[u16; 1026], age: u32) -> Result<Option<u32>, Refusal>
 }
 
 // The height that is told of an hour; 0 where there is none.
-#[tactic(auto, unfolding(ring::specs::Kept::telling_of))]
+#[tactic(auto, unfolding(ring::specs::Kept::telling_by))]
 fn height_of(hour: Result<Option<u32>, Refusal>) -> u32
     ensures { result ≡ (telling_of hour).height }
 {

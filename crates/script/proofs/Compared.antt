@@ -6,12 +6,11 @@ use mathlib.Core.List.{List, [], ◌∷◌}
 use lib.Dec.{ltb, eqb}
 use borrow.Author.Tests.{eqb-true, eq-eqb}
 use Rattle.std.specs.Prelude.{Result, Ok, Err}
-use Rattle.refusal.specs.declared.Refused.{Refused}
 use Rattle.refusal.specs.declared.Refusal.{Refusal}
 use Rattle.record.proofs.Choice.{and_left, and_right, and_go}
 use Rattle.screen.specs.Screen.{memory_size}
 use Rattle.screen.specs.declared.ScreenValues.{ScreenValues}
-use Rattle.compiler.specs.Compile.{compiling_of}
+use Rattle.compiler.specs.Compile.{Compiling, compiling_by}
 use Rattle.compiler.specs.declared.Compiled.{Compiled}
 use Rattle.reader.specs.Read.{reading, answer_of}
 use Rattle.reader.specs.declared.Display.{Display}
@@ -20,18 +19,18 @@ use Rattle.script.specs.Script.{number_at, number_of}
 use Rattle.script.specs.Verdict.{is_record, display_on, is_colour, is_point, same_bytes}
 
 -- ---- a record
-pub record_is : (line : List ℕ) (c : Result Compiled Refused) (stream : List ℕ) (i n v low high size number : ℕ) → i ≡ number_of line 0 → n ≡ number_at stream (8 * i) → v ≡ number_at stream (8 * i + 4) → low ≡ number_of line 2 → high ≡ number_of line 3 → size ≡ (compiling_of c).length → number ≡ number_of line 1 → (ltb (8 * i) size && (eqb n number && eqb v (low + 65536 * high))) ≡ is_record line c stream
+pub record_is : (line : List ℕ) (c : Compiling) (stream : List ℕ) (i n v low high size number : ℕ) → i ≡ number_of line 0 → n ≡ number_at stream (8 * i) → v ≡ number_at stream (8 * i + 4) → low ≡ number_of line 2 → high ≡ number_of line 3 → size ≡ c.length → number ≡ number_of line 1 → (ltb (8 * i) size && (eqb n number && eqb v (low + 65536 * high))) ≡ is_record line c stream
 unfolding is_record
 record_is line c stream i n v low high size number e f g h j k l = rw (f, g, h, j, k, l, e)
 
 -- ---- a panel point
-module _ (c : Result Compiled Refused) (desk : List ℕ) (w h : ℕ) (e : w ≡ number_at desk 4) (f : h ≡ number_at desk 6) where
-  pub display_accepted : (x : Compiled) → c ≡ Ok x → ◌≡◌ {A = Display} (record { depth = x.depth; rotation = x.rotation; flag = x.flag; width = w % 65536; height = h % 65536 }) (display_on c desk)
-  unfolding display_on compiling_of
+module _ {E : Type 0} (number_in place_in : E → ℕ) (c : Result Compiled E) (desk : List ℕ) (w h : ℕ) (e : w ≡ number_at desk 4) (f : h ≡ number_at desk 6) where
+  pub display_accepted : (x : Compiled) → c ≡ Ok x → ◌≡◌ {A = Display} (record { depth = x.depth; rotation = x.rotation; flag = x.flag; width = w % 65536; height = h % 65536 }) (display_on (compiling_by number_in place_in c) desk)
+  unfolding display_on compiling_by
   display_accepted x g = rw (g, e, f)
 
-  pub display_refused : (r : Refused) → c ≡ Err r → ◌≡◌ {A = Display} (record { depth = 0; rotation = 0; flag = 0; width = w % 65536; height = h % 65536 }) (display_on c desk)
-  unfolding display_on compiling_of
+  pub display_refused : (r : E) → c ≡ Err r → ◌≡◌ {A = Display} (record { depth = 0; rotation = 0; flag = 0; width = w % 65536; height = h % 65536 }) (display_on (compiling_by number_in place_in c) desk)
+  unfolding display_on compiling_by
   display_refused r g = rw (g, e, f)
 
 module _ (line : List ℕ) (a : Result Point Refusal) where
@@ -43,12 +42,12 @@ module _ (line : List ℕ) (a : Result Point Refusal) where
   unfolding is_colour
   colour_refused r e = rw e
 
-module _ (line : List ℕ) (c : Result Compiled Refused) (p : Result ScreenValues Refused) (desk memory : List ℕ) where
+module _ {E : Type 0} (line : List ℕ) (c : Compiling) (p : Result ScreenValues E) (desk memory : List ℕ) where
   pub point_played : (v : ScreenValues) (d : Display) (x y : ℕ) (a : Result Point Refusal) (r : Bool) → p ≡ Ok v → d ≡ display_on c desk → x ≡ number_of line 0 → y ≡ number_of line 1 → a ≡ answer_of (reading memory_size d v x y memory) → r ≡ is_colour line a → r ≡ is_point line c p desk memory
   unfolding is_point
   point_played v d x y a r e f g h i j = rw (e, ← f, ← g, ← h, ← i) j
 
-  pub point_refused : (r : Refused) → p ≡ Err r → false ≡ is_point line c p desk memory
+  pub point_refused : (r : E) → p ≡ Err r → false ≡ is_point line c p desk memory
   unfolding is_point
   point_refused r e = rw e
 

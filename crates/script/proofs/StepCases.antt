@@ -4,10 +4,11 @@ use mathlib.Core.Path.{◌≡◌, refl}
 use mathlib.Core.List.{List, [], ◌∷◌, ◌++◌, map}
 use lib.ListN.{length, take, replicate}
 use Rattle.std.specs.Prelude.{Result, Ok}
+use Rattle.refusal.proofs.Numbers.{told_self}
 use Rattle.refusal.specs.declared.Refused.{Refused}
 use Rattle.screen.specs.Screen.{memory_size}
 use Rattle.command.specs.Task.{short_form, long_form, task}
-use Rattle.compiler.specs.Compile.{compiling, buffer_after, compiling_of, answer_of as compiledFrom}
+use Rattle.compiler.specs.Compile.{Compiling, compiling, buffer_after, compiling_of, compiling_by, answer_of as compiledFrom}
 use Rattle.compiler.specs.declared.Compiled.{Compiled}
 use Rattle.older.specs.Compile.{older_compiling, older_buffer}
 use Rattle.chip.specs.Play.{playing, played, answer_of as playedFrom}
@@ -73,24 +74,24 @@ unfolding number_put scan_byte scan_bytes number_of words_put words_after stream
 set_cases = (refl, refl, refl)
 
 -- what is compiled has 32 bytes of screen record; what is played, as many as compiling gave
-pub part_cases : (length (screen_on commanded) ≡ 32) × (stream_on (Ok (record { length = 2; depth = 8; rotation = 0; flag = 0 })) (1 ∷ 2 ∷ 3 ∷ []) ≡ 1 ∷ 2 ∷ [])
-unfolding compiling_of number_at number_put scan_byte scan_bytes number_of fields_put desk_after
+pub part_cases : (length (screen_on commanded) ≡ 32) × (stream_on (compiling_of (Ok (record { length = 2; depth = 8; rotation = 0; flag = 0 }))) (1 ∷ 2 ∷ 3 ∷ []) ≡ 1 ∷ 2 ∷ [])
+unfolding compiling_by number_at number_put scan_byte scan_bytes number_of fields_put desk_after
 part_cases = (refl, refl)
 
 -- compiling and playing happen at their own steps, on any desk and any memory
-module _ (c : Result Compiled Refused) (p : Result ScreenValues Refused) (desk words stream memory : List ℕ) (room : ℕ) where
-  pub compile_cases : (compiled_after compile_step c desk words room ≡ compiledFrom (compiling memory_size (task (form_on desk) (screen_on desk) (list_on desk) (words_on desk words)) room))
+module _ (c : Result Compiled Refused) (a : Compiling) (p : Result ScreenValues Refused) (desk words stream memory : List ℕ) (room : ℕ) where
+  pub compile_cases : (compiled_after (λ r. r) compile_step c desk words room ≡ compiledFrom (compiling memory_size (task (form_on desk) (screen_on desk) (list_on desk) (words_on desk words)) room))
       × (stream_after compile_step desk words stream ≡ buffer_after memory_size (task (form_on desk) (screen_on desk) (list_on desk) (words_on desk words)) stream)
-      × (compiled_after older_step c desk words room ≡ compiledFrom (older_compiling (task (form_on desk) (screen_on desk) (list_on desk) (words_on desk words)) room))
+      × (compiled_after (λ r. r) older_step c desk words room ≡ compiledFrom (older_compiling (task (form_on desk) (screen_on desk) (list_on desk) (words_on desk words)) room))
       × (stream_after older_step desk words stream ≡ older_buffer (task (form_on desk) (screen_on desk) (list_on desk) (words_on desk words)) stream)
-      × (compiled_after play_step c desk words room ≡ c)
+      × (compiled_after (λ r. r) play_step c desk words room ≡ c)
       × (stream_after play_step desk words stream ≡ stream)
   unfolding compiled_after stream_after
-  compile_cases = (refl, refl, refl, refl, refl, refl)
+  compile_cases = (told_self _, refl, told_self _, refl, refl, refl)
 
-  pub play_cases : (played_after play_step p c stream memory ≡ playedFrom (playing memory_size (stream_on c stream) memory))
-      × (memory_played play_step c stream memory ≡ played memory_size (stream_on c stream) memory)
-      × (played_after compile_step p c stream memory ≡ p)
-      × (memory_played compile_step c stream memory ≡ memory)
+  pub play_cases : (played_after (λ r. r) play_step p a stream memory ≡ playedFrom (playing memory_size (stream_on a stream) memory))
+      × (memory_played play_step a stream memory ≡ played memory_size (stream_on a stream) memory)
+      × (played_after (λ r. r) compile_step p a stream memory ≡ p)
+      × (memory_played compile_step a stream memory ≡ memory)
   unfolding played_after memory_played
-  play_cases = (refl, refl, refl, refl)
+  play_cases = (told_self _, refl, refl, refl)

@@ -5,8 +5,9 @@ use mathlib.Core.Bool.{Bool, true, false}
 use mathlib.Core.List.{List, [], ◌∷◌, map}
 use Rattle.std.specs.Prelude.{Ok, Err}
 use Rattle.refusal.specs.Number as refusals
+use Rattle.refusal.specs.declared.Refused.{Refused}
 use Rattle.refusal.specs.declared.Refusal.TheVariants.{Rotation, WindowDwords, StreamLength}
-use Rattle.compiler.specs.Compile.{compiling_of}
+use Rattle.compiler.specs.Compile.{compiling_of, compiling_by}
 use Rattle.script.specs.Script.{number_at, scan_byte, scan_bytes, number_of}
 use Rattle.script.specs.Steps.{example_step, store_step, compile_step, older_step, play_step}
 use Rattle.script.specs.Verdict.{reg_step, records_step, point_step, same_step, done_step, is_answer, is_played, is_record, has_records, is_point, same_bytes, is_comment, holds, judged}
@@ -27,8 +28,8 @@ abbrev stream : List ℕ
 stream = 0x54 ∷ 0 ∷ 0 ∷ 0 ∷ 9 ∷ 0 ∷ 0 ∷ 0 ∷ 0x58 ∷ 0 ∷ 0 ∷ 0 ∷ 0xA ∷ 0 ∷ 0x1D ∷ 0 ∷ []
 
 -- so it is in a stream of two records, and is not in one of one record
-pub record_cases : (is_record line (Ok (record { length = 16; depth = 8; rotation = 0; flag = 0 })) stream ≡ true) × (is_record line (Ok (record { length = 8; depth = 8; rotation = 0; flag = 0 })) stream ≡ false)
-unfolding compiling_of number_at scan_byte scan_bytes number_of is_record
+pub record_cases : (is_record line (compiling_of (Ok (record { length = 16; depth = 8; rotation = 0; flag = 0 }))) stream ≡ true) × (is_record line (compiling_of (Ok (record { length = 8; depth = 8; rotation = 0; flag = 0 }))) stream ≡ false)
+unfolding compiling_by number_at scan_byte scan_bytes number_of is_record
 record_cases = (refl, refl)
 
 pub same_cases : (same_bytes (1 ∷ 2 ∷ []) (1 ∷ 2 ∷ []) ≡ true)
@@ -55,18 +56,18 @@ judged_cases = (refl, refl, refl)
 abbrev eight : List ℕ
 eight = 99 ∷ 111 ∷ 109 ∷ 112 ∷ 32 ∷ 32 ∷ 32 ∷ 32 ∷ 56 ∷ []
 
-pub answer_cases : (is_answer eight (Err (record { refusal = WindowDwords; place = 3 })) ≡ true) × (is_answer eight (Err (record { refusal = Rotation; place = 8 })) ≡ false) × (is_answer eight (Ok (record { length = 64; depth = 8; rotation = 0; flag = 0 })) ≡ false)
-unfolding refusals.number compiling_of scan_byte scan_bytes number_of
+pub answer_cases : (is_answer eight (compiling_of (Err (record { refusal = WindowDwords; place = 3 }))) ≡ true) × (is_answer eight (compiling_of (Err (record { refusal = Rotation; place = 8 }))) ≡ false) × (is_answer eight (compiling_of (Ok (record { length = 64; depth = 8; rotation = 0; flag = 0 }))) ≡ false)
+unfolding refusals.number compiling_by scan_byte scan_bytes number_of
 answer_cases = (refl, refl, refl)
 
 -- eight records are 64 bytes
-pub records_cases : (has_records eight (Ok (record { length = 64; depth = 8; rotation = 0; flag = 0 })) ≡ true) × (has_records eight (Ok (record { length = 8; depth = 8; rotation = 0; flag = 0 })) ≡ false)
-unfolding compiling_of scan_byte scan_bytes number_of
+pub records_cases : (has_records eight (compiling_of (Ok (record { length = 64; depth = 8; rotation = 0; flag = 0 }))) ≡ true) × (has_records eight (compiling_of (Ok (record { length = 8; depth = 8; rotation = 0; flag = 0 }))) ≡ false)
+unfolding compiling_by scan_byte scan_bytes number_of
 records_cases = (refl, refl)
 
 -- the verdict on a line, with compiling accepted and playing refused, and two memories that differ
 abbrev verdict : ℕ → List ℕ → Bool
-verdict k l = holds k l (Ok (record { length = 64; depth = 8; rotation = 0; flag = 0 })) (Err (record { refusal = StreamLength; place = 0 })) [] [] (1 ∷ []) (2 ∷ [])
+verdict k l = holds {E = Refused} k l (compiling_of (Ok (record { length = 64; depth = 8; rotation = 0; flag = 0 }))) (Err (record { refusal = StreamLength; place = 0 })) [] [] (1 ∷ []) (2 ∷ [])
 
 -- `older`, without a number
 abbrev bare : List ℕ
@@ -74,7 +75,7 @@ bare = 111 ∷ 108 ∷ 100 ∷ 101 ∷ 114 ∷ []
 
 -- compiling that was accepted, at either of its steps: its number is 0, and not 8
 pub compiled_cases : verdict compile_step eight ∷ verdict older_step eight ∷ verdict compile_step bare ∷ verdict older_step bare ∷ [] ≡ false ∷ false ∷ true ∷ true ∷ []
-unfolding compiling_of scan_byte scan_bytes number_of holds
+unfolding compiling_by scan_byte scan_bytes number_of holds
 compiled_cases = refl
 
 -- playing that was refused does not hold, nor a line that is no step; a step that sets, and a comment, do

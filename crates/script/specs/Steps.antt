@@ -8,7 +8,8 @@ use Rattle.refusal.specs.declared.Refused.{Refused}
 use Rattle.std.specs.Prelude.{ℕ, ◌*◌, ◌%◌, List, [], ◌∷◌, Bool, ◌||◌, cond, take, drop, replicate, eqb}
 use Rattle.screen.specs.Screen.{memory_size}
 use Rattle.command.specs.Task.{short_form, long_form, Task, task}
-use Rattle.compiler.specs.Compile.{compiling, buffer_after, compiling_of, answer_of as compiledFrom}
+use Rattle.refusal.specs.Number.{told_by}
+use Rattle.compiler.specs.Compile.{Compiling, compiling, buffer_after, answer_of as compiledFrom}
 use Rattle.compiler.specs.declared.Compiled.{Compiled}
 use Rattle.older.specs.Compile.{older_compiling, older_buffer}
 use Rattle.chip.specs.Play.{playing, played, answer_of as playedFrom}
@@ -121,11 +122,11 @@ words_on desk words = take (number_at desk 84) words
 abbrev pub task_on : List ℕ → List ℕ → Task
 task_on desk words = task (form_on desk) (screen_on desk) (list_on desk) (words_on desk words)
 
--- the answer of the last compiling, for the S1D13A05 or the older S1D13706, into a stream buffer of `room` bytes
-unfoldable pub compiled_after : ℕ → Result Compiled Refused → List ℕ → List ℕ → ℕ → Result Compiled Refused
-compiled_after k old desk words room =
-    cond (eqb k compile_step) (compiledFrom (compiling memory_size (task_on desk words) room))
-    (cond (eqb k older_step) (compiledFrom (older_compiling (task_on desk words) room)) old)
+-- the answer of the last compiling, for the S1D13A05 or the older S1D13706, into a stream buffer of `room` bytes, as it tells of a refusal
+unfoldable pub compiled_after : {E : Type 0} → (Refused → E) → ℕ → Result Compiled E → List ℕ → List ℕ → ℕ → Result Compiled E
+compiled_after told k old desk words room =
+    cond (eqb k compile_step) (told_by told (compiledFrom (compiling memory_size (task_on desk words) room)))
+    (cond (eqb k older_step) (told_by told (compiledFrom (older_compiling (task_on desk words) room))) old)
 
 -- the stream buffer
 unfoldable pub stream_after : ℕ → List ℕ → List ℕ → List ℕ → List ℕ
@@ -134,13 +135,13 @@ stream_after k desk words stream =
     (cond (eqb k older_step) (older_buffer (task_on desk words) stream) stream)
 
 -- what is played: the stream in the length that compiling gave
-abbrev pub stream_on : Result Compiled Refused → List ℕ → List ℕ
-stream_on c stream = take (compiling_of c).length stream
+abbrev pub stream_on : Compiling → List ℕ → List ℕ
+stream_on c stream = take c.length stream
 
--- the answer of the last playing
-unfoldable pub played_after : ℕ → Result ScreenValues Refused → Result Compiled Refused → List ℕ → List ℕ → Result ScreenValues Refused
-played_after k old c stream memory = cond (eqb k play_step) (playedFrom (playing memory_size (stream_on c stream) memory)) old
+-- the answer of the last playing, as it tells of a refusal
+unfoldable pub played_after : {E : Type 0} → (Refused → E) → ℕ → Result ScreenValues E → Compiling → List ℕ → List ℕ → Result ScreenValues E
+played_after told k old c stream memory = cond (eqb k play_step) (told_by told (playedFrom (playing memory_size (stream_on c stream) memory))) old
 
 -- the memory after playing
-unfoldable pub memory_played : ℕ → Result Compiled Refused → List ℕ → List ℕ → List ℕ
+unfoldable pub memory_played : ℕ → Compiling → List ℕ → List ℕ → List ℕ
 memory_played k c stream memory = cond (eqb k play_step) (played memory_size (stream_on c stream) memory) memory

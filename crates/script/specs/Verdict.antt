@@ -1,12 +1,10 @@
 -- Whether a step is as the papers have it, and what that says of an example and of all.
 use Rattle.std.specs.Prelude.{Result, Ok, Err}
-use Rattle.refusal.specs.declared.Refused.{Refused}
 use Rattle.refusal.specs.declared.Refusal.{Refusal}
 use Rattle.std.specs.Prelude.{ℕ, ◌+◌, ◌*◌, ◌%◌, List, [], ◌∷◌, Bool, true, false, ◌&&◌, ◌||◌, cond, length, ltb, eqb}
 use Rattle.record.specs.Bytes.{byte_at}
 use Rattle.screen.specs.Screen.{memory_size}
-use Rattle.compiler.specs.Compile.{compiling_of}
-use Rattle.compiler.specs.declared.Compiled.{Compiled}
+use Rattle.compiler.specs.Compile.{Compiling}
 use Rattle.screen.specs.declared.ScreenValues.{ScreenValues}
 use Rattle.reader.specs.Read.{reading, answer_of}
 use Rattle.reader.specs.declared.Display.{Display}
@@ -38,34 +36,33 @@ done_step = 0x656E6F64
 
 -- ---- what each compares
 -- compiling gave the line's number
-abbrev pub is_answer : List ℕ → Result Compiled Refused → Bool
-is_answer line c = eqb (compiling_of c).number (number_of line 0)
+abbrev pub is_answer : List ℕ → Compiling → Bool
+is_answer line c = eqb c.number (number_of line 0)
 
 -- playing was not refused
-unfoldable pub is_played : Result ScreenValues Refused → Bool
+unfoldable pub is_played : {E : Type 0} → Result ScreenValues E → Bool
 is_played (Ok v) = true
 is_played (Err r) = false
 
 -- the line's record is in the stream, and is the line's register at the line's value
-unfoldable pub is_record : List ℕ → Result Compiled Refused → List ℕ → Bool
+unfoldable pub is_record : List ℕ → Compiling → List ℕ → Bool
 is_record line c stream =
     let at = 8 * number_of line 0 in
-    ltb at (compiling_of c).length
+    ltb at c.length
     && (eqb (number_at stream at) (number_of line 1)
     && eqb (number_at stream (at + 4)) (number_of line 2 + 65536 * number_of line 3))
 
 -- the stream has the line's number of records
-abbrev pub has_records : List ℕ → Result Compiled Refused → Bool
-has_records line c = eqb (compiling_of c).length (8 * number_of line 0)
+abbrev pub has_records : List ℕ → Compiling → Bool
+has_records line c = eqb c.length (8 * number_of line 0)
 
 -- the panel as compiling sets it, in the size that the desk has
-unfoldable pub display_on : Result Compiled Refused → List ℕ → Display
+unfoldable pub display_on : Compiling → List ℕ → Display
 display_on c desk =
-    let a = compiling_of c in
     record {
-      depth = a.depth;
-      rotation = a.rotation;
-      flag = a.flag;
+      depth = c.depth;
+      rotation = c.rotation;
+      flag = c.flag;
       width = number_at desk 4 % 65536;
       height = number_at desk 6 % 65536;
     }
@@ -76,7 +73,7 @@ is_colour line (Ok p) = eqb p.colour (number_of line 2)
 is_colour line (Err r) = false
 
 -- the line's panel point, after playing, shows the line's colour
-unfoldable pub is_point : List ℕ → Result Compiled Refused → Result ScreenValues Refused → List ℕ → List ℕ → Bool
+unfoldable pub is_point : {E : Type 0} → List ℕ → Compiling → Result ScreenValues E → List ℕ → List ℕ → Bool
 is_point line c (Ok v) desk memory =
     is_colour line (answer_of (reading memory_size (display_on c desk) v (number_of line 0) (number_of line 1) memory))
 is_point line c (Err r) desk memory = false
@@ -104,7 +101,7 @@ is_comment line = eqb (length line) 0 || eqb (byte_at line 0) 35
 
 -- ---- the verdict
 -- a line is as the papers have it; a line that is neither a step nor a comment is not
-unfoldable pub holds : ℕ → List ℕ → Result Compiled Refused → Result ScreenValues Refused → List ℕ → List ℕ → List ℕ → List ℕ → Bool
+unfoldable pub holds : {E : Type 0} → ℕ → List ℕ → Compiling → Result ScreenValues E → List ℕ → List ℕ → List ℕ → List ℕ → Bool
 holds k line c p desk stream memory kept =
     cond (eqb k compile_step || eqb k older_step) (is_answer line c)
     (cond (eqb k play_step) (is_played p)

@@ -6,11 +6,12 @@
 #![tactic(auto)]
 
 ghost use Rattle.std.specs.Prelude.{◌≡◌, ◌≤◌, length, replicate};
-ghost use Rattle.compiler.specs.Compile.{compiling_of};
+ghost use Rattle.compiler.specs.Compile.{compiling_by};
+ghost use Rattle.refusal.specs.Number.{told_by};
 ghost use Rattle.script.specs.Steps.{form_on, desk_after, words_after, stream_patched, keeps, kept_after, memory_after, compiled_after, stream_after, played_after, memory_played};
 
 use compiler::Compiled;
-use refusal::Refused;
+use refusal::{Numbered, Refused, Told};
 use screen::ScreenValues;
 
 // The steps that leave something: the first four letters of a line as a number, the first letter lowest. They stay numbers, since the
@@ -135,15 +136,26 @@ fn form_on(desk: &[u8]) -> u32
     48
 }
 
+// An answer, as it tells of a refusal.
+#[tactic(auto, unfolding(refusal::specs::Number::told_by))]
+fn told<A: Copy, E: Told>(answer: Result<A, Refused>) -> Result<A, E>
+    ensures { result ≡ told_by E.told answer }
+{
+    match answer {
+        Ok(a) => Ok(a),
+        Err(refused) => Err(E::tell(refused)),
+    }
+}
+
 // Compiles what is on the desk, at a step that says so, for the S1D13A05 or the older S1D13706; else the old answer.
-pub fn compile(
+pub fn compile<E: Told>(
     k: u32,
-    old: Result<Compiled, Refused>,
+    old: Result<Compiled, E>,
     desk: &[u8; 92],
     words: &[u16; 1001],
     stream: &mut [u8; 16384],
-) -> Result<Compiled, Refused>
-    ensures value { result ≡ compiled_after k old desk.now words.now (length stream.old) }
+) -> Result<Compiled, E>
+    ensures value { result ≡ compiled_after E.told k old desk.now words.now (length stream.old) }
     ensures stream_after { stream.new ≡ stream_after k desk.now words.now stream.old }
 {
     let bytes = &desk[..];
@@ -155,16 +167,16 @@ pub fn compile(
     let list = &bytes[32..end];
     let taken = &all[..n];
     match k {
-        COMPILE => compiler_code::compile_into(form, screen, list, taken, stream),
-        OLDER => older_code::compile_into(form, screen, list, taken, stream),
+        COMPILE => told(compiler_code::compile_into(form, screen, list, taken, stream)),
+        OLDER => told(older_code::compile_into(form, screen, list, taken, stream)),
         _ => old,
     }
 }
 
 // The stream's length in bytes; 0 where there is none.
-#[tactic(auto, unfolding(compiler::specs::Compile::compiling_of))]
-pub fn size_of(c: Result<Compiled, Refused>) -> u64
-    ensures { result ≡ (compiling_of c).length }
+#[tactic(auto, unfolding(compiler::specs::Compile::compiling_by))]
+pub fn size_of<E: Numbered>(c: Result<Compiled, E>) -> u64
+    ensures { result ≡ (compiling_by E.number_in E.place_in c).length }
 {
     match c {
         Ok(compiled) => compiled.length,
@@ -173,20 +185,20 @@ pub fn size_of(c: Result<Compiled, Refused>) -> u64
 }
 
 // Plays the stream over the memory, at a step that says so; else the old answer.
-pub fn play(
+pub fn play<E: Told, C: Numbered>(
     k: u32,
-    old: Result<ScreenValues, Refused>,
-    c: Result<Compiled, Refused>,
+    old: Result<ScreenValues, E>,
+    c: Result<Compiled, C>,
     stream: &[u8; 16384],
     memory: &mut [u8; 262144],
-) -> Result<ScreenValues, Refused>
-    ensures value { result ≡ played_after k old c stream.now memory.old }
-    ensures memory_after { memory.new ≡ memory_played k c stream.now memory.old }
+) -> Result<ScreenValues, E>
+    ensures value { result ≡ played_after E.told k old (compiling_by C.number_in C.place_in c) stream.now memory.old }
+    ensures memory_after { memory.new ≡ memory_played k (compiling_by C.number_in C.place_in c) stream.now memory.old }
 {
     if k != PLAY {
         return old;
     }
     let all = &stream[..];
     let n = (size_of(c) as usize).min(all.len());
-    chip_code::play(&all[..n], memory)
+    told(chip_code::play(&all[..n], memory))
 }

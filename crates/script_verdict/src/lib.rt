@@ -2,12 +2,12 @@
 #![tactic(auto)]
 
 ghost use Rattle.std.specs.Prelude.{◌≡◌};
-ghost use Rattle.compiler.specs.Compile.{compiling_of};
+ghost use Rattle.compiler.specs.Compile.{compiling_by};
 ghost use Rattle.script.specs.Verdict.{is_answer, is_played, is_record, has_records, display_on, is_colour, is_point, same_bytes, is_setting, is_comment, holds, judged};
 
 use compiler::Compiled;
 use reader::{Display, Point};
-use refusal::{Refusal, Refused};
+use refusal::{Numbered, Refusal};
 use screen::ScreenValues;
 use script::Tally;
 
@@ -23,34 +23,34 @@ const SAME: u32 = 0x656D6173;
 pub const DONE: u32 = 0x656E6F64;
 
 // The number that an answer of compiling has.
-#[tactic(auto, unfolding(compiler::specs::Compile::compiling_of))]
-fn number_of(c: Result<Compiled, Refused>) -> u32
-    ensures { result ≡ (compiling_of c).number }
+#[tactic(auto, unfolding(compiler::specs::Compile::compiling_by))]
+fn number_of<E: Numbered>(c: Result<Compiled, E>) -> u32
+    ensures { result ≡ (compiling_by E.number_in E.place_in c).number }
 {
     match c {
         Ok(_) => 0,
-        Err(refused) => refused.refusal.number(),
+        Err(why) => why.as_number(),
     }
 }
 
 // Whether compiling gave the line's number.
-fn is_answer(line: &[u8], c: Result<Compiled, Refused>) -> bool
-    ensures { result ≡ is_answer line.now c }
+fn is_answer<E: Numbered>(line: &[u8], c: Result<Compiled, E>) -> bool
+    ensures { result ≡ is_answer line.now (compiling_by E.number_in E.place_in c) }
 {
     number_of(c) == script_code::number(line, 0)
 }
 
 // Whether playing was not refused.
 #[tactic(auto, unfolding(script::specs::Verdict::is_played))]
-fn is_played(p: Result<ScreenValues, Refused>) -> bool
+fn is_played<P: Copy>(p: Result<ScreenValues, P>) -> bool
     ensures { result ≡ is_played p }
 {
     p.is_ok()
 }
 
 // Whether the line's record is in the stream, and is the line's register at the line's value.
-fn is_record(line: &[u8], c: Result<Compiled, Refused>, stream: &[u8; 16384]) -> bool
-    ensures { result ≡ is_record line.now c stream.now }
+fn is_record<E: Numbered>(line: &[u8], c: Result<Compiled, E>, stream: &[u8; 16384]) -> bool
+    ensures { result ≡ is_record line.now (compiling_by E.number_in E.place_in c) stream.now }
 {
     let at = 8 * script_code::number(line, 0) as usize;
     let n = script_code::number_at(stream, at);
@@ -60,15 +60,15 @@ fn is_record(line: &[u8], c: Result<Compiled, Refused>, stream: &[u8; 16384]) ->
 }
 
 // Whether the stream has the line's number of records.
-fn has_records(line: &[u8], c: Result<Compiled, Refused>) -> bool
-    ensures { result ≡ has_records line.now c }
+fn has_records<E: Numbered>(line: &[u8], c: Result<Compiled, E>) -> bool
+    ensures { result ≡ has_records line.now (compiling_by E.number_in E.place_in c) }
 {
     script_steps::size_of(c) == 8 * script_code::number(line, 0) as u64
 }
 
 // The panel as compiling sets it, in the size that the desk has.
-fn display_on(c: Result<Compiled, Refused>, desk: &[u8; 92]) -> Display
-    ensures { result ≡ display_on c desk.now }
+fn display_on<E: Numbered>(c: Result<Compiled, E>, desk: &[u8; 92]) -> Display
+    ensures { result ≡ display_on (compiling_by E.number_in E.place_in c) desk.now }
 {
     let width = script_code::number_at(desk, 4) % 65536;
     let height = script_code::number_at(desk, 6) % 65536;
@@ -102,14 +102,14 @@ fn is_colour(line: &[u8], a: Result<Point, Refusal>) -> bool
 }
 
 // Whether the line's panel point, after playing, shows the line's colour.
-fn is_point(
+fn is_point<E: Numbered, P: Copy>(
     line: &[u8],
-    c: Result<Compiled, Refused>,
-    p: Result<ScreenValues, Refused>,
+    c: Result<Compiled, E>,
+    p: Result<ScreenValues, P>,
     desk: &[u8; 92],
     memory: &[u8; 262144],
 ) -> bool
-    ensures { result ≡ is_point line.now c p desk.now memory.now }
+    ensures { result ≡ is_point line.now (compiling_by E.number_in E.place_in c) p desk.now memory.now }
 {
     match p {
         Ok(values) => {
@@ -155,17 +155,17 @@ fn is_comment(line: &[u8]) -> bool
 }
 
 // Whether a line is as the papers have it.
-pub fn check_line(
+pub fn check_line<E: Numbered, P: Copy>(
     k: u32,
     line: &[u8],
-    c: Result<Compiled, Refused>,
-    p: Result<ScreenValues, Refused>,
+    c: Result<Compiled, E>,
+    p: Result<ScreenValues, P>,
     desk: &[u8; 92],
     stream: &[u8; 16384],
     memory: &[u8; 262144],
     kept: &[u8; 262144],
 ) -> bool
-    ensures { result ≡ holds k line.now c p desk.now stream.now memory.now kept.now }
+    ensures { result ≡ holds k line.now (compiling_by E.number_in E.place_in c) p desk.now stream.now memory.now kept.now }
 {
     match k {
         script_steps::COMPILE | script_steps::OLDER => is_answer(line, c),

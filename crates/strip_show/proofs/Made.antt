@@ -22,7 +22,7 @@ use Rattle.compiler.proofs.Outcome.{refused_screen}
 use Rattle.ring.specs.declared.Ring.{Ring}
 use Rattle.font.specs.Factory.{factory_font}
 use Rattle.wear.specs.declared.Ask.{Ask}
-use Rattle.wear.specs.Strip.{Strip, strip_for, strip_list, strip_words, strip_rows, Stripping, stripping, list_after, words_after, stripping_of, answer_of}
+use Rattle.wear.specs.Strip.{Strip, strip_for, strip_list, strip_words, strip_rows, Stripping, stripping, list_after, words_after, stripping_of, stripping_by, answer_of}
 use Rattle.wear.specs.declared.Made.{Made}
 use Rattle.strip_show.specs.Drawn.{ask_for, strip_made, strip_drawn}
 
@@ -53,7 +53,7 @@ module _ (t : Strip) (list words : List ℕ) (r : Result Made Refusal) (answers 
 
   module _ (m : Made) (made : r ≡ Ok m) where
     numbers : (s.number ≡ 0) × ((s.bytes ≡ m.bytes) × (s.words ≡ m.words))
-    unfolding stripping_of
+    unfolding stripping_by
     numbers =
         let e = sym answers ∙ ap stripping_of made in
         (ap (λ (x : Stripping). x.number) e, (ap (λ (x : Stripping). x.bytes) e, ap (λ (x : Stripping). x.words) e))

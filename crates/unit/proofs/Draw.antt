@@ -15,12 +15,12 @@ use Rattle.record.specs.Record.{stream_bytes}
 use Rattle.record.proofs.Stores.{length_stream, length_over}
 use Rattle.command.specs.Task.{Task, task, screen_in}
 use Rattle.compiler.specs.Stream.{records_in}
-use Rattle.compiler.specs.Compile.{stream_of, Compiling, compiling, buffer_after, compiling_of}
+use Rattle.compiler.specs.Compile.{stream_of, Compiling, compiling, buffer_after, compiling_of, compiling_by}
 use Rattle.compiler.specs.declared.Compiled.{Compiled}
 use Rattle.compiler.proofs.Accepted.{compiled_says}
-use Rattle.chip.specs.Play.{Playing, playing, played, playing_of}
+use Rattle.chip.specs.Play.{Playing, playing, played, playing_of, playing_by}
 use Rattle.unit.specs.Demands.{InBytes, DrawnTruly, stream_given}
-use Rattle.unit.specs.Draw.{Drawing, refused_by, drawing, memory_drawn, stream_drawn, drawing_of, answer_of as unit_answer_of}
+use Rattle.unit.specs.Draw.{Drawing, refused_by, drawing, memory_drawn, stream_drawn, drawing_of, drawing_by, answer_of as unit_answer_of}
 use Rattle.unit.specs.Sheet.{sheet_commands, sheet_after}
 use Rattle.unit.specs.declared.Drawn.{Drawn}
 use Rattle.std.specs.Prelude.{Result, Ok, Err}
@@ -35,20 +35,20 @@ not_zero : (r : Refused) → refusals.number r.refusal ≡ 0 → ⊥
 not_zero r z = let p = number_positive r.refusal in omega (arith, p)
 
 refused_number : (r : Refused) (c : Compiling) → compiling_of (Err r) ≡ c → c.number ≡ 0 → ⊥
-unfolding compiling_of
+unfolding compiling_by
 refused_number r c e z = not_zero r (ap (λ (x : Compiling). x.number) e ∙ z)
 
 not_played : (r : Refused) (p : Playing) → p.number ≡ 0 → playing_of (Err r) ≡ p → ⊥
-unfolding playing_of
+unfolding playing_by
 not_played r p z e = not_zero r (ap (λ (x : Playing). x.number) e ∙ z)
 
 -- an answer whose numbers are a drawing's is the drawing's answer
 refused_answer : (r : Refused) (d : Drawing) → drawing_of (Err r) ≡ d → (drawing_of (Err r) ≡ d) × (Err r ≡ unit_answer_of d)
-unfolding drawing_of unit_answer_of
+unfolding drawing_by unit_answer_of
 refused_answer r d e = (e, rw (← e) (sym (refused_with_at _ r _ r.place refl refl)))
 
 accepted_answer : (x : Drawn) (d : Drawing) → drawing_of (Ok x) ≡ d → (drawing_of (Ok x) ≡ d) × (Ok x ≡ unit_answer_of d)
-unfolding drawing_of unit_answer_of
+unfolding drawing_by unit_answer_of
 accepted_answer x d e = (e, rw (← e) (sym (accepted_at x 0 0 refl)))
 
 -- both cases alike
@@ -83,7 +83,7 @@ module _ (t : Task) (old memory : List ℕ) where
   other = record { refusal = MemoryLength; place = 0 }
 
   pub other_size : (length memory ≡ memory_size → ⊥) → Drew (Err other) old memory
-  unfolding drawing stream_drawn memory_drawn drawing_of refusals.number
+  unfolding drawing stream_drawn memory_drawn drawing_by refusals.number
   other_size n =
       rw (ne_eqb (length memory) memory_size n)
       (let a = refused_answer other (refused_by 18 0) refl in (a.0, (a.1, (refl, refl))))
@@ -91,7 +91,7 @@ module _ (t : Task) (old memory : List ℕ) where
   module _ (len : length memory ≡ memory_size) (stream : List ℕ) (buffer : stream ≡ buffer_after memory_size t old) where
     -- compiling refuses
     pub compile_refused : (r : Refused) → compiling_of (Err r) ≡ c → Drew (Err r) stream memory
-    unfolding drawing stream_drawn memory_drawn drawing_of compiling_of
+    unfolding drawing stream_drawn memory_drawn drawing_by compiling_by
     compile_refused r e =
         let some = ne_eqb c.number 0 (refused_number r c e) in
         let a = refused_answer r (refused_by c.number c.place) (λ k. refused_by (e k).number (e k).place) in
@@ -99,11 +99,11 @@ module _ (t : Task) (old memory : List ℕ) where
 
     module _ (x : Compiled) (e : compiling_of (Ok x) ≡ c) where
       none : c.number ≡ 0
-      unfolding compiling_of
+      unfolding compiling_by
       none = sym (ap (λ (k : Compiling). k.number) e)
 
       size : x.length ≡ c.length
-      unfolding compiling_of
+      unfolding compiling_by
       size = ap (λ (k : Compiling). k.length) e
 
       -- the stream lies in the buffer
@@ -132,7 +132,7 @@ module _ (t : Task) (old memory : List ℕ) where
 
         pub draw_accepted : (v : ScreenValues) (new : List ℕ) → playing_of (Ok v) ≡ playing memory_size part memory → new ≡ played memory_size part memory
             → Drew (Ok (record { length = x.length; values = v })) stream new
-        unfolding drawing stream_drawn memory_drawn drawing_of playing_of
+        unfolding drawing stream_drawn memory_drawn drawing_by playing_by
         draw_accepted v new p m =
             let values : v ≡ values_of (screen_in t) =
             ap (λ (k : Playing). k.values) p ∙ ap (λ (k : List ℕ). (playing memory_size k memory).values) given

@@ -26,7 +26,7 @@ use Rattle.compiler.specs.Compile.{room_rows, refusal_of, compiling, stream_of, 
 use Rattle.unit.specs.Sheet.{sheet_address, sheet_bit, sheet_pixel, host_pixel, sheet_source, sheet_mix, new_pixel, changes, sheet_byte, sheet_command, sheet_commands, sheet_after, sheet_shows, shown_address, shown_place}
 use Rattle.unit.specs.Point.{sheet_point, sheet_line}
 use Rattle.unit.specs.Kept.{is_shown, in_gap, outside}
-use Rattle.unit.specs.Draw.{drawing, memory_drawn, stream_drawn, drawing_of, answer_of, show_rows, showing}
+use Rattle.unit.specs.Draw.{drawing, memory_drawn, stream_drawn, drawing_of, drawing_by, answer_of, show_rows, showing}
 use Rattle.unit.specs.Cases.{command}
 use Rattle.unit.specs.declared.Drawn.{Drawn}
 use Rattle.std.specs.Prelude.{Ok, Err}
@@ -179,7 +179,7 @@ pub answers : (drawing_of (Err empty_1)
     × (answer_of (drawing_of (Err empty_1)) ≡ Err empty_1)
     × (answer_of (drawing 24 (task short_form (screen 8) [] []) 0 []) ≡ Err (record { refusal = MemoryLength; place = 0 }))
     × (answer_of (drawing_of (Ok bytes_120)) ≡ Ok bytes_120)
-unfolding drawing drawing_of answer_of refusals.answered_at refusals.number refusals.refusal
+unfolding drawing drawing_by answer_of refusals.answered_at refusals.number refusals.refusal
 answers = (refl, refl, refl, refl)
 
 -- line 1 of the panel: the main image's left half, and the window's second line over its right half; 18 before 1, 1 before 24, and 24

@@ -19,7 +19,7 @@ use Rattle.screen.proofs.Fits.{values_pass}
 use Rattle.screen.specs.declared.ScreenValues.{ScreenValues}
 use Rattle.std.specs.Prelude.{Result, Ok, Err}
 use Rattle.refusal.specs.Number as refusals
-use Rattle.refusal.specs.Number.{number_of}
+use Rattle.refusal.specs.Number.{number_of, number_by}
 use Rattle.refusal.specs.declared.Refusal.{Refusal}
 use Rattle.refusal.specs.declared.Refusal.TheVariants.{MemoryLength}
 use Rattle.refusal.proofs.Numbers.{number_positive}
@@ -95,7 +95,7 @@ module _ (bytes : List ℕ) (p q : ℕ) (memory : List ℕ) where
 
 module _ (bytes : List ℕ) (p q : ℕ) (memory : List ℕ) (len : length memory ≡ memory_size) where
   pub screen_refused : (r : Refusal) → screen_of memory_size bytes ≡ Err r → Shown bytes p q memory (Err r)
-  unfolding number_of
+  unfolding number_by
   screen_refused r e =
       let f : refusals.number r ≡ first_of (screen_rows memory_size bytes) = ap number_of (sym e) ∙ number_is memory_size bytes in
       refused_answer r _ (show_refused bytes p q memory len (refusals.number r) (number_positive r) f)

@@ -41,16 +41,20 @@ memory_drawn m t room memory = cond (eqb (drawing m t room memory).number 0) (sh
 unfoldable pub stream_drawn : ℕ → Task → List ℕ → List ℕ → List ℕ
 stream_drawn m t old memory = cond (eqb (length memory) m) (buffer_after m t old) old
 
--- 01's numbers of an answer: of a refusal all but number and place are 0
-unfoldable pub drawing_of : Result Drawn Refused → Drawing
-drawing_of (Ok d) = record { number = 0; place = 0; length = d.length; values = d.values }
-drawing_of (Err r) =
+-- the numbers of an answer, whose refusals have these numbers and places: of a refusal all but number and place are 0
+unfoldable pub drawing_by : {E : Type 0} → (E → ℕ) → (E → ℕ) → Result Drawn E → Drawing
+drawing_by number_in place_in (Ok d) = record { number = 0; place = 0; length = d.length; values = d.values }
+drawing_by number_in place_in (Err r) =
     record {
-      number = refusals.number r.refusal;
-      place = r.place;
+      number = number_in r;
+      place = place_in r;
       length = 0;
       values = record { main = record { start = 0; offset = 0 }; window = record { start = 0; offset = 0 }; x = 0; y = 0 };
     }
+
+-- 01's numbers of an answer
+abbrev pub drawing_of : Result Drawn Refused → Drawing
+drawing_of a = drawing_by refusals.refused_number refusals.refused_place a
 
 -- the answer with these numbers
 unfoldable pub answer_of : Drawing → Result Drawn Refused

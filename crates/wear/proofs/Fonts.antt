@@ -12,7 +12,7 @@ use lib.Dec.{leb, ltb, eqb}
 use borrow.Author.Tests.{leb-true, ltb-false, le-leb, lt-leb, lt-ltb, le-ltb}
 use Rattle.record.specs.Part.{IsPart}
 use Rattle.record.proofs.Choice.{below_or_not, both_ways}
-use Rattle.wear.specs.Font.{Finding, finding, finding_of, GlyphPart, glyph_of, last_decimal_digits, digits_of}
+use Rattle.wear.specs.Font.{Finding, finding, finding_of, finding_by, GlyphPart, glyph_of, last_decimal_digits, digits_of}
 use Rattle.std.specs.Prelude.{Ok, Err}
 use Rattle.refusal.specs.Number as refusals
 use Rattle.refusal.specs.declared.Refusal.{Refusal}
@@ -22,16 +22,16 @@ use Rattle.wear.specs.declared.Glyph.TheVariants.{Site, Factory}
 -- ---- the answers
 module _ (site factory digit : ℕ) where
   pub found_none : (ltb factory 80 || ltb 9 digit) ≡ true → finding_of (Err WearRange) ≡ finding site factory digit
-  unfolding finding finding_of refusals.number
+  unfolding finding finding_by refusals.number
   found_none e = rw e
 
   module _ (e : (ltb factory 80 || ltb 9 digit) ≡ false) where
     pub found_site : 8 * digit + 8 ≤ site → finding_of (Ok (Site (8 * digit))) ≡ finding site factory digit
-    unfolding finding finding_of
+    unfolding finding finding_by
     found_site h = rw (e, le-leb (8 * digit + 8) site h)
 
     pub found_factory : site < 8 * digit + 8 → finding_of (Ok (Factory (8 * digit))) ≡ finding site factory digit
-    unfolding finding finding_of
+    unfolding finding finding_by
     found_factory h = rw (e, lt-leb (8 * digit + 8) site h)
 
 -- ---- where a part ends
@@ -63,13 +63,13 @@ or_right true false h = refl
 or_right false b h = h
 
 pub site_ends : (site factory digit at : ℕ) → finding_of (Ok (Site at)) ≡ finding site factory digit → at + 8 ≤ site
-unfolding finding finding_of
+unfolding finding finding_by
 site_ends site factory digit at e =
     let h = site_tests digit at (ltb factory 80 || ltb 9 digit) (leb (8 * digit + 8) site) e in
     omega (arith, leb-true (8 * digit + 8) site h.0, h.1)
 
 pub factory_ends : (site factory digit at : ℕ) → finding_of (Ok (Factory at)) ≡ finding site factory digit → at + 8 ≤ factory
-unfolding finding finding_of
+unfolding finding finding_by
 factory_ends site factory digit at e =
     let h = factory_tests digit at (ltb factory 80 || ltb 9 digit) (leb (8 * digit + 8) site) e in
     omega (arith, ltb-false factory 80 (or_left (ltb factory 80) (ltb 9 digit) h.0), ltb-false 9 digit (or_right (ltb factory 80) (ltb 9 digit) h.0), h.1)
@@ -82,15 +82,15 @@ eight_bytes font r at p q =
 
 module _ (site factory r : Bor (List ℕ)) (f : Finding) where
   pub site_part : (at : ℕ) → finding_of (Ok (Site at)) ≡ f → IsPart site r at 8 → GlyphPart site factory r f
-  unfolding finding_of
+  unfolding finding_by
   site_part at e p = subst (λ (g : Finding). GlyphPart site factory r g) e p
 
   pub factory_part : (at : ℕ) → finding_of (Ok (Factory at)) ≡ f → IsPart factory r at 8 → GlyphPart site factory r f
-  unfolding finding_of
+  unfolding finding_by
   factory_part at e p = subst (λ (g : Finding). GlyphPart site factory r g) e p
 
   pub no_part : (why : Refusal) → finding_of (Err why) ≡ f → IsPart factory r 0 0 → GlyphPart site factory r f
-  unfolding finding_of
+  unfolding finding_by
   no_part why e p = subst (λ (g : Finding). GlyphPart site factory r g) e p
 
 -- ---- the bytes of a glyph

@@ -4,7 +4,7 @@ use mathlib.Core.Path.{◌≡◌, refl}
 use mathlib.Core.Bool.{true, false}
 use mathlib.Core.List.{List, [], ◌∷◌}
 use Rattle.record.specs.Lists.{tabulate}
-use Rattle.wear.specs.Font.{Finding, is_factory, finding, font_of, glyph_of, glyph_bit, finding_of, last_decimal_digits, digits_of}
+use Rattle.wear.specs.Font.{Finding, is_factory, finding, font_of, glyph_of, glyph_bit, finding_of, finding_by, last_decimal_digits, digits_of}
 use Rattle.std.specs.Prelude.{Ok, Err}
 use Rattle.refusal.specs.Number as refusals
 use Rattle.refusal.specs.declared.Refusal.TheVariants.{WearRange}
@@ -32,7 +32,7 @@ findings = refl
 answers :
     numbers (finding_of (Ok (Site 16))) ∷ numbers (finding_of (Ok (Factory 24))) ∷ numbers (finding_of (Err WearRange)) ∷ []
     ≡ (0 ∷ 1 ∷ 16 ∷ 8 ∷ []) ∷ (0 ∷ 0 ∷ 24 ∷ 8 ∷ []) ∷ (27 ∷ 0 ∷ 0 ∷ 0 ∷ []) ∷ []
-unfolding finding_of refusals.number
+unfolding finding_by refusals.number
 answers = refl
 
 factories : is_factory 0 ∷ is_factory 79 ∷ is_factory 80 ∷ is_factory 2048 ∷ [] ≡ false ∷ false ∷ true ∷ true ∷ []

@@ -23,7 +23,7 @@ use Rattle.ring.specs.Kept.{heights_of}
 use Rattle.ring.specs.declared.Ring.{Ring}
 use Rattle.ring.proofs.Heights.{heights_count, heights_low}
 use Rattle.wear.specs.Font.{digits_of}
-use Rattle.wear.specs.Strip.{digits_in, Strip, strip_with, strip_for, column, columns, writes, strip_commands, list_bytes, strip_list, strip_words, all_in_reach, ask_rows, strip_rows, Stripping, stripping, list_after, words_after, stripping_of, answer_of}
+use Rattle.wear.specs.Strip.{digits_in, Strip, strip_with, strip_for, column, columns, writes, strip_commands, list_bytes, strip_list, strip_words, all_in_reach, ask_rows, strip_rows, Stripping, stripping, list_after, words_after, stripping_of, stripping_by, answer_of}
 use Rattle.wear.specs.Limits.{Checked, Drawable, command_count}
 use Rattle.wear.specs.declared.Ask.{Ask}
 use Rattle.std.specs.Prelude.{Result, Ok, Err}
@@ -209,11 +209,11 @@ module _ (t : Strip) (list words : List ℕ) where
     some z = let p = number_positive r in omega (arith, p)
 
     pub refused_numbers : stripping_of (Err r) ≡ stripping t (length list) (length words)
-    unfolding stripping_of stripping
+    unfolding stripping_by stripping
     refused_numbers = rw (e, ne_eqb (number r) 0 some)
 
     refused_number : (stripping t (length list) (length words)).number ≡ number r
-    unfolding stripping_of
+    unfolding stripping_by
     refused_number = ap (λ (s : Stripping). s.number) (sym refused_numbers)
 
     pub refused_list : list ≡ list_after t list words
@@ -234,7 +234,7 @@ module _ (t : Strip) (list words : List ℕ) where
   -- made: both buffers hold the result and what lies past it
   module _ (e : first_of (strip_rows t (length list) (length words)) ≡ 0) where
     pub made_numbers : (bytes count : ℕ) → bytes ≡ length (strip_list t) → count ≡ length (strip_words t) → stripping_of (Ok (record { bytes = bytes; words = count })) ≡ stripping t (length list) (length words)
-    unfolding stripping_of stripping
+    unfolding stripping_by stripping
     made_numbers bytes count p q = rw (e, p, q)
 
     made_number : (stripping t (length list) (length words)).number ≡ 0
@@ -250,7 +250,7 @@ module _ (t : Strip) (list words : List ℕ) where
     made_words new s h = rw made_number (s ∙ sets_over words (strip_words t) h)
 
   pub answered : (r : Result Made Refusal) → stripping_of r ≡ stripping t (length list) (length words) → r ≡ answer_of (stripping t (length list) (length words))
-  unfolding answer_of stripping_of
+  unfolding answer_of stripping_by
   answered (Ok m) e = rw (← e) (sym (accepted m 0 refl))
   answered (Err r) e = rw (← e) (sym (refused_with _ r (number r) refl))
 

@@ -10,7 +10,7 @@ use Rattle.command.specs.declared.Command.{Command}
 use Rattle.ring.specs.Kept.{empty_ring, takes, hours_on, blanked, with_sample, taking, slot_hour, hour_in, ring_after, heights_of}
 use Rattle.ring.specs.declared.Ring.{Ring}
 use Rattle.wear.specs.Font.{finding, glyph_of, glyph_bit, last_decimal_digits}
-use Rattle.wear.specs.Strip.{ask_with, digits_in, Strip, strip_with, strip_for, column, columns, writes, strip_commands, list_bytes, strip_list, glyph_colour, glyph_word, glyph_words, digit_words, strip_words, all_in_reach, ask_rows, strip_rows, stripping, list_after, words_after, stripping_of, answer_of}
+use Rattle.wear.specs.Strip.{ask_with, digits_in, Strip, strip_with, strip_for, column, columns, writes, strip_commands, list_bytes, strip_list, glyph_colour, glyph_word, glyph_words, digit_words, strip_words, all_in_reach, ask_rows, strip_rows, stripping, list_after, words_after, stripping_of, stripping_by, answer_of}
 use Rattle.wear.specs.Limits.{command_count}
 use Rattle.wear.specs.declared.Ask.{Ask}
 use Rattle.std.specs.Prelude.{Ok, Err}
@@ -191,5 +191,5 @@ pub answer_cases : (stripping_of (Ok (record { bytes = 96; words = 32 })) ≡ re
     × (stripping_of (Err Room) ≡ record { number = 17; bytes = 0; words = 0 })
     × (answer_of (record { number = 0; bytes = 96; words = 32 }) ≡ Ok (record { bytes = 96; words = 32 }))
     × (answer_of (record { number = 27; bytes = 0; words = 0 }) ≡ Err WearRange)
-unfolding stripping_of answer_of refusals.answered refusals.number refusals.refusal
+unfolding stripping_by answer_of refusals.answered refusals.number refusals.refusal
 answer_cases = (refl, refl, refl, refl)

@@ -45,11 +45,15 @@ glyph_of site factory digit =
 unfoldable pub glyph_bit : List ℕ → ℕ → ℕ → ℕ
 glyph_bit glyph i j = byte_at glyph j / 2 ^ (7 - i) % 2
 
--- the numbers of an answer
-unfoldable pub finding_of : Result Glyph Refusal → Finding
-finding_of (Ok (Site at)) = record { number = 0; site = 1; at = at; length = 8 }
-finding_of (Ok (Factory at)) = record { number = 0; site = 0; at = at; length = 8 }
-finding_of (Err r) = record { number = refusals.number r; site = 0; at = 0; length = 0 }
+-- the numbers of an answer, whose refusals have these numbers
+unfoldable pub finding_by : {E : Type 0} → (E → ℕ) → Result Glyph E → Finding
+finding_by number_in (Ok (Site at)) = record { number = 0; site = 1; at = at; length = 8 }
+finding_by number_in (Ok (Factory at)) = record { number = 0; site = 0; at = at; length = 8 }
+finding_by number_in (Err r) = record { number = number_in r; site = 0; at = 0; length = 0 }
+
+-- 01's numbers of an answer
+abbrev pub finding_of : Result Glyph Refusal → Finding
+finding_of a = finding_by refusals.number a
 
 -- a number's last digits, at most k, without leading zeros; the number 0 is the one digit 0
 unfoldable pub last_decimal_digits : ℕ → ℕ → List ℕ

@@ -155,10 +155,14 @@ list_after t list words = buffer_with (stripping t (length list) (length words))
 unfoldable pub words_after : Strip → List ℕ → List ℕ → List ℕ
 words_after t list words = buffer_with (stripping t (length list) (length words)) (strip_words t) words
 
--- the numbers of an answer: of a refusal both lengths are 0
-unfoldable pub stripping_of : Result Made Refusal → Stripping
-stripping_of (Ok m) = record { number = 0; bytes = m.bytes; words = m.words }
-stripping_of (Err r) = record { number = refusals.number r; bytes = 0; words = 0 }
+-- the numbers of an answer, whose refusals have these numbers: of a refusal both lengths are 0
+unfoldable pub stripping_by : {E : Type 0} → (E → ℕ) → Result Made E → Stripping
+stripping_by number_in (Ok m) = record { number = 0; bytes = m.bytes; words = m.words }
+stripping_by number_in (Err r) = record { number = number_in r; bytes = 0; words = 0 }
+
+-- 01's numbers of an answer
+abbrev pub stripping_of : Result Made Refusal → Stripping
+stripping_of a = stripping_by refusals.number a
 
 -- the answer with these numbers
 unfoldable pub answer_of : Stripping → Result Made Refusal

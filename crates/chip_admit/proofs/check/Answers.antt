@@ -6,7 +6,7 @@ use lib.ListN.{length}
 use Rattle.record.specs.Record.{records_from, records_of}
 use Rattle.record.proofs.Records.{records_end}
 use Rattle.chip.specs.Admit.{is_data, refusal, chip_after}
-use Rattle.refusal.specs.Number.{number_of, number_at, place_at}
+use Rattle.refusal.specs.Number.{number_by, number_at, place_at}
 use Rattle.refusal.proofs.Numbers.{number_positive}
 use Rattle.chip.specs.Play.{run, running_of}
 use Rattle.chip.specs.declared.Chip.{Chip}
@@ -26,7 +26,7 @@ loop-i-init c = let s = c.args.stream.now in
     (omega arith, λ t. run c.args.memory c.args.start 0 (records_from s 0 (sym (sub-zero (length s / 8)) t)))
 
 pub returns-in-Err : goal.returns-in-Err
-unfolding number_of number_at place_at running_of
+unfolding number_by number_at place_at running_of
 returns-in-Err c = let a = c.args in
     let l = c.loop-i in
     let s = a.stream.now in
@@ -36,7 +36,7 @@ returns-in-Err c = let a = c.args in
     ∙ (λ t. record { number = sym e t; place = l.i; chip = l.chip }))
 
 pub register_after-chip-requires : goal.register_after-chip-requires
-unfolding number_of
+unfolding number_by
 register_after-chip-requires c = let a = c.args in
     let l = c.loop-i in
     let s = a.stream.now in
@@ -44,7 +44,7 @@ register_after-chip-requires c = let a = c.args in
     ∙ none_taken a.memory l.chip s l.i (length s / 8) (omega arith) (sym c.words_taken-n.ensures ∙ c.if-n-eq0.true) (sym (is a.memory l.chip c.in_default.ensures c.record_at-r.ensures))
 
 pub loop-i-preserved-then-n-eq0 : goal.loop-i-preserved-then-n-eq0
-unfolding number_of
+unfolding number_by
 loop-i-preserved-then-n-eq0 c = let a = c.args in
     let l = c.loop-i in
     let s = a.stream.now in

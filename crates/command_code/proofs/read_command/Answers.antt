@@ -4,7 +4,7 @@ use mathlib.Core.List.{List}
 use Rattle.std.specs.Prelude.{Result, Ok, Err}
 use Rattle.std.proofs.lemmas.Result.{err_from_is_err_and}
 use Rattle.record.specs.Checks.{first_of}
-use Rattle.refusal.specs.Number.{number_of}
+use Rattle.refusal.specs.Number.{number_of, number_by}
 use Rattle.refusal.specs.declared.Refusal.{Refusal}
 use Rattle.screen.specs.Screen.{memory_size}
 use Rattle.screen.specs.declared.Screen.{Screen}
@@ -23,11 +23,11 @@ unfolding refusal
 table s left b d x e h = h ∙ ap (λ (d : Command). first_of (command_rows memory_size s left b d)) e
 
 refused : (s : Screen) (left : ℕ) (b : List ℕ) (x : Result (Unit {0}) Refusal) (r : Refusal) (y : Result Command Refusal) → number_of x ≡ refusal memory_size s left b → x ≡ Err r → y ≡ Err r → y ≡ command_answer memory_size s left b
-unfolding number_of
+unfolding number_by
 refused s left b x r y e f g = g ∙ refuses memory_size s left b r (ap number_of (sym f) ∙ e)
 
 passed : (s : Screen) (left : ℕ) (b : List ℕ) (d : Command) (x : Result (Unit {0}) Refusal) (u : Unit {0}) → d ≡ command_of b → number_of x ≡ refusal memory_size s left b → x ≡ Ok u → Ok d ≡ command_answer memory_size s left b
-unfolding number_of
+unfolding number_by
 passed s left b d x u f e z = rw f (accepts memory_size s left b (sym e ∙ ap number_of z))
 
 pub returns-in_err-check_command-clause-value : goal.returns-in_err-check_command-clause-value

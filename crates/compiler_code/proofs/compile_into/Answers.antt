@@ -5,7 +5,7 @@ use native.Mathlib.Omega.{arith}
 use lib.ListN.{length}
 use Rattle.std.specs.Prelude.{Result, Ok, Err}
 use Rattle.std.proofs.lemmas.Result.{err_from_is_err_and, IfOk-at_ok}
-use Rattle.refusal.specs.Number.{number, number_of}
+use Rattle.refusal.specs.Number.{number, number_of, number_by}
 use Rattle.refusal.specs.declared.Refusal.{Refusal}
 use Rattle.refusal.specs.declared.Refused.{Refused}
 use Rattle.screen.specs.Screen.{memory_size}
@@ -18,11 +18,11 @@ use Rattle.compiler_code.proofs.compile_into.Goals as goal
 
 -- what a check's number is, by what it answered
 passed : (x : Result (Unit {0}) Refusal) (u : Unit {0}) (n : ℕ) → number_of x ≡ n → x ≡ Ok u → n ≡ 0
-unfolding number_of
+unfolding number_by
 passed x u n e f = sym e ∙ ap number_of f
 
 refused : (x : Result (Unit {0}) Refusal) (r : Refusal) (n : ℕ) → number_of x ≡ n → x ≡ Err r → number r ≡ n
-unfolding number_of
+unfolding number_by
 refused x r n e f = sym (ap number_of f) ∙ e
 
 -- a refusal that is handed on

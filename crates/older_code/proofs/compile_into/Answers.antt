@@ -3,7 +3,7 @@ use mathlib.Core.Path.{◌≡◌, subst, sym, ap, ◌∙◌}
 use mathlib.Core.List.{List}
 use Rattle.std.specs.Prelude.{Result, Ok, Err}
 use Rattle.std.proofs.lemmas.Result.{err_from_is_err_and}
-use Rattle.refusal.specs.Number.{number, number_of}
+use Rattle.refusal.specs.Number.{number, number_of, number_by}
 use Rattle.refusal.specs.declared.Refusal.{Refusal}
 use Rattle.refusal.specs.declared.Refused.{Refused}
 use Rattle.command.specs.Task.{Task, task}
@@ -13,11 +13,11 @@ use Rattle.older_code.proofs.compile_into.Goals as goal
 
 -- what a check's number is, by what it answered
 passed : (x : Result (Unit {0}) Refusal) (u : Unit {0}) (n : ℕ) → number_of x ≡ n → x ≡ Ok u → n ≡ 0
-unfolding number_of
+unfolding number_by
 passed x u n e f = sym e ∙ ap number_of f
 
 refused : (x : Result (Unit {0}) Refusal) (r : Refusal) (n : ℕ) → number_of x ≡ n → x ≡ Err r → number r ≡ n
-unfolding number_of
+unfolding number_by
 refused x r n e f = sym (ap number_of f) ∙ e
 
 -- a refusal that is handed on

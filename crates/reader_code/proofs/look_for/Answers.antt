@@ -12,7 +12,7 @@ use Rattle.record.specs.Checks.{first_of}
 use Rattle.record.proofs.Choice.{and_right}
 use Rattle.std.specs.Prelude.{Result, Ok, Err}
 use Rattle.std.proofs.lemmas.Result.{err_from_is_err_and}
-use Rattle.refusal.specs.Number.{number_of}
+use Rattle.refusal.specs.Number.{number_of, number_by}
 use Rattle.refusal.specs.declared.Refusal.{Refusal}
 use Rattle.reader.specs.declared.Spot.{Spot}
 use Rattle.reader.specs.Looking.{looking}
@@ -22,11 +22,11 @@ use Rattle.reader_code.proofs.look_for.Goals as goal
 
 -- the checks of what is given: the first refusal, and where there is none they all pass
 given_refuses : (m n : ℕ) (d : Display) (v : ScreenValues) (p q : ℕ) (x : Result (Unit {0}) Refusal) (r : Refusal) (y : Result Spot Refusal) → number_of x ≡ first_of (take 8 (read_rows m d v p q n)) → x ≡ Err r → y ≡ Err r → y ≡ looking m d v p q n
-unfolding number_of
+unfolding number_by
 given_refuses m n d v p q x r y e f g = g ∙ given_refused m d v p q n r (ap number_of (sym f) ∙ e)
 
 none_fails : (m n : ℕ) (d : Display) (v : ScreenValues) (p q : ℕ) (x : Result (Unit {0}) Refusal) (u : Unit {0}) → number_of x ≡ first_of (take 8 (read_rows m d v p q n)) → x ≡ Ok u → first_of (take 8 (read_rows m d v p q n)) ≡ 0
-unfolding number_of
+unfolding number_by
 none_fails m n d v p q x u e z = sym e ∙ ap number_of z
 
 pub returns-in_err-check_given : goal.returns-in_err-check_given

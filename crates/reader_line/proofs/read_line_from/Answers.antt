@@ -5,10 +5,9 @@ use Rattle.reader.specs.declared.Display.{Display}
 use Rattle.reader.specs.declared.Spot.{Spot}
 use Rattle.std.specs.Prelude.{Result, Ok, Err}
 use Rattle.std.proofs.lemmas.Result.{err_from_is_err_and}
-use Rattle.refusal.specs.Number.{number, number_of}
+use Rattle.refusal.specs.Number.{number, number_of, number_by}
 use Rattle.refusal.specs.declared.Refusal.{Refusal}
 use Rattle.refusal.proofs.Numbers.{number_positive}
-use native.Mathlib.Omega.{arith}
 use lib.ListN.{length, take}
 use Rattle.record.specs.Checks.{first_of}
 use Rattle.reader.specs.Read.{read_rows}
@@ -22,18 +21,18 @@ column_0 : (m : ℕ) (d : Display) (v : ScreenValues) (q n : ℕ) (at : Result S
 column_0 m d v q n at f = ap number_of f ∙ look_number_lem m d v 0 q n
 
 refused_0 : (m : ℕ) (d : Display) (v : ScreenValues) (q n : ℕ) (at : Result Spot Refusal) (r : Refusal) → at ≡ looking m d v 0 q n → at ≡ Err r → number r ≡ first_of (read_rows m d v 0 q n)
-unfolding number_of
+unfolding number_by
 refused_0 m d v q n at r f e = sym (ap number_of e) ∙ column_0 m d v q n at f
 
 -- where it looks, none of the checks of what is given fails
 none_fails : (m : ℕ) (d : Display) (v : ScreenValues) (q n : ℕ) (at : Result Spot Refusal) (s : Spot) → at ≡ looking m d v 0 q n → at ≡ Ok s
     → first_of (take 8 (read_rows m d v 0 q n)) ≡ 0
-unfolding number_of
+unfolding number_by
 none_fails m d v q n at s f z = eight_pass m d v 0 q n (sym (column_0 m d v q n at f) ∙ ap number_of z)
 
 -- the answer of an error
 answered : (x : Result (Unit {0}) Refusal) (r : Refusal) (n : ℕ) → x ≡ Err r → number r ≡ n → number_of x ≡ n
-unfolding number_of
+unfolding number_by
 answered x r n e f = ap number_of e ∙ f
 
 pub returns-in_err-at : goal.returns-in_err-at
@@ -47,13 +46,13 @@ pub is_line_inside-inside-requires : goal.is_line_inside-inside-requires
 is_line_inside-inside-requires c = (walkable c.args.size c.args.d c.args.values c.args.q c.args.memory.now c.args.line.now (none_fails c.args.size c.args.d c.args.values c.args.q (length c.args.memory.now) c.args.at c.in_ok-at.field-0 c.requires c.in_ok-at.was), c.window_columns-c.ensures)
 
 pub returns-then-not-inside : goal.returns-then-not-inside
-unfolding number_of number
+unfolding number_by number
 returns-then-not-inside c =
     let k = line_outside c.args.size c.args.d c.args.values c.args.q c.args.memory.now c.args.line.now (none_fails c.args.size c.args.d c.args.values c.args.q (length c.args.memory.now) c.args.at c.in_ok-at.field-0 c.requires c.in_ok-at.was) (sym c.is_line_inside-inside.ensures ∙ c.if-not-inside.true) in
     record { value = k.0; line_after = k.1 }
 
 pub returns-then-not-whole : goal.returns-then-not-whole
-unfolding number_of number
+unfolding number_by number
 returns-then-not-whole c =
     let k = line_short c.args.size c.args.d c.args.values c.args.q c.args.memory.now c.args.line.now (none_fails c.args.size c.args.d c.args.values c.args.q (length c.args.memory.now) c.args.at c.in_ok-at.field-0 c.requires c.in_ok-at.was) (sym c.is_line_inside-inside.ensures ∙ c.if-not-inside.false) c.if-not-whole.true in
     record { value = k.0; line_after = k.1 }
@@ -66,7 +65,7 @@ fill_line-requires c =
     )
 
 pub returns : goal.returns
-unfolding number_of number
+unfolding number_by number
 returns c =
     let k = line_filled c.args.size c.args.d c.args.values c.args.q c.args.memory.now c.args.line.now (none_fails c.args.size c.args.d c.args.values c.args.q (length c.args.memory.now) c.args.at c.in_ok-at.field-0 c.requires c.in_ok-at.was) (sym c.is_line_inside-inside.ensures ∙ c.if-not-inside.false) c.if-not-whole.false in
     record { value = k.0; line_after = c.fill_line.ensures ∙ k.1 }

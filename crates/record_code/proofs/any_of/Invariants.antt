@@ -7,4 +7,4 @@ use Rattle.refusal.specs.Number.{found_by}
 use Rattle.record_code.proofs.any_of.Given as goal
 
 abbrev pub invariant-loop-found : goal.invariant-loop-found
-invariant-loop-found l = any_of (found_by l.checks) ≡ l.any || any_of (found_by (drop l.found-index l.checks))
+invariant-loop-found g l = any_of (found_by l.checks) ≡ l.any || any_of (found_by (drop l.found-index l.checks))

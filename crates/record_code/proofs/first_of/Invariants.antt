@@ -2,8 +2,8 @@
 use mathlib.Core.Path.{◌≡◌}
 use lib.ListN.{drop}
 use Rattle.record.specs.Checks.{first_of}
-use Rattle.refusal.specs.Number.{rows_by}
+use Rattle.refusal.specs.Number.{rows_from}
 use Rattle.record_code.proofs.first_of.Given as goal
 
 abbrev pub invariant-loop-refusal : goal.invariant-loop-refusal
-invariant-loop-refusal l = first_of (rows_by l.checks) ≡ first_of (rows_by (drop l.refusal-index l.checks))
+invariant-loop-refusal g l = first_of (rows_from g.T.Numbered.number_in l.checks) ≡ first_of (rows_from g.T.Numbered.number_in (drop l.refusal-index l.checks))

@@ -1,11 +1,11 @@
 use Rattle.std.proofs.Common.{length, ap, ◌∙◌, arith, length-set}
 use Rattle.record.proofs.Choice.{tested}
 use Rattle.ring.proofs.Stored.{taken_low, taken_hours, taken_number, refused_number, cells_refused, cells_taken, length_blanked}
-use Rattle.refusal.specs.Number.{number, number_of}
+use Rattle.refusal.specs.Number.{number, number_by}
 use Rattle.ring_code.proofs.take_cells.Goals as goal
 
 pub returns-then-not-takes : goal.returns-then-not-takes
-unfolding number number_of
+unfolding number number_by
 returns-then-not-takes c =
     let a = c.args in
     let t = tested c.takes.ensures c.if-not-takes.true in
@@ -41,7 +41,7 @@ bounds-cells-at-2 c =
     simp length-set (omega (arith, kept, c.slot_of-at.ensures))
 
 pub returns : goal.returns
-unfolding number_of
+unfolding number_by
 returns c =
     let a = c.args in
     let t = tested c.takes.ensures c.if-not-takes.false in

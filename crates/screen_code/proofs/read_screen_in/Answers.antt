@@ -1,5 +1,5 @@
 use Prim.Native.Nat.{ℕ}
-use mathlib.Core.Path.{◌≡◌, refl, ap, sym, ◌∙◌}
+use mathlib.Core.Path.{◌≡◌, ap, sym, ◌∙◌}
 use mathlib.Core.List.{List}
 use mathlib.Core.Bool.{Bool, true, false, not}
 use Rattle.std.specs.Prelude.{Result, Ok, Err}
@@ -7,7 +7,7 @@ use Rattle.std.proofs.lemmas.Result.{err_from_is_err_and}
 use Rattle.record.specs.Checks.{first_of}
 use Rattle.record.proofs.Checks.{row_fails}
 use Rattle.record.proofs.Choice.{tested}
-use Rattle.refusal.specs.Number.{number, number_of}
+use Rattle.refusal.specs.Number.{number, number_of, number_by}
 use Rattle.refusal.specs.declared.Refusal.{Refusal}
 use Rattle.refusal.specs.declared.Refusal.TheVariants.{ScreenRecord}
 use Rattle.screen.specs.Screen.{well_formed, fields_of, field_rows, screen_rows, screen_of}
@@ -29,11 +29,11 @@ table : (m : ℕ) (b : List ℕ) (w : Bool) (s : Screen) (x : Result (Unit {0}) 
 table m b w s x e h f g = g ∙ ap (λ (s : Screen). first_of (field_rows m s)) f ∙ form_passes m b (tested e h)
 
 refused : (m : ℕ) (b : List ℕ) (x : Result (Unit {0}) Refusal) (r : Refusal) (y : Result Screen Refusal) → number_of x ≡ first_of (screen_rows m b) → x ≡ Err r → y ≡ Err r → y ≡ screen_of m b
-unfolding number_of
+unfolding number_by
 refused m b x r y e f g = g ∙ refuses m b r (ap number_of (sym f) ∙ e)
 
 passed : (m : ℕ) (b : List ℕ) (s : Screen) (x : Result (Unit {0}) Refusal) (u : Unit {0}) → s ≡ fields_of b → number_of x ≡ first_of (screen_rows m b) → x ≡ Ok u → Ok s ≡ screen_of m b
-unfolding number_of
+unfolding number_by
 passed m b s x u f e z = rw f (accepts m b (sym e ∙ ap number_of z))
 
 pub returns-then-not-is_well_formed-clause-value : goal.returns-then-not-is_well_formed-clause-value

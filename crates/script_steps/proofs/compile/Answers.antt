@@ -3,7 +3,8 @@ use lib.ListN.{length, take, drop}
 use mathlib.Core.List.{List}
 use Rattle.script.specs.Script.{number_at}
 use Rattle.std.proofs.Common.{min, ◌≢◌}
-use mathlib.Core.Path.{◌≡◌, refl, sym}
+use mathlib.Core.Path.{◌≡◌, refl, sym, ap, ◌∙◌}
+use Rattle.refusal.specs.Number.{told_by}
 use Prim.Native.Nat.{ℕ, ◌+◌, ◌-◌, ◌*◌, ◌%◌}
 use native.Mathlib.Omega.{arith}
 use borrow.Author.Tests.{eq-eqb, ne_eqb}
@@ -23,37 +24,37 @@ on_desk : {A : Type 0} (f : ℕ → List ℕ → List ℕ → A) {r : A} (desk w
 on_desk f desk words form n m k is two least count e = at_parts f e is (list_on_lem desk form n is two) (taken words m k _ least count)
 
 pub overflow_mul-end : goal.overflow_mul-end
-overflow_mul-end c = omega (arith, one_record c.form_on-form.result c.number_at-2.result c.form_on-form.ensures.1)
+overflow_mul-end g c = omega (arith, one_record c.form_on-form.result c.number_at-2.result c.form_on-form.ensures.1)
 
 pub overflow_cast-end : goal.overflow_cast-end
-overflow_cast-end c = omega (arith, one_record c.form_on-form.result c.number_at-2.result c.form_on-form.ensures.1)
+overflow_cast-end g c = omega (arith, one_record c.form_on-form.result c.number_at-2.result c.form_on-form.ensures.1)
 
 pub overflow_add-end : goal.overflow_add-end
-overflow_add-end c = omega (arith, one_record c.form_on-form.result c.number_at-2.result c.form_on-form.ensures.1)
+overflow_add-end g c = omega (arith, one_record c.form_on-form.result c.number_at-2.result c.form_on-form.ensures.1)
 
 pub slice_bounds-screen-end : goal.slice_bounds-screen-end
-slice_bounds-screen-end c = sym (length-take-le 32 c.args.desk.now (omega arith))
+slice_bounds-screen-end g c = sym (length-take-le 32 c.args.desk.now (omega arith))
 
 pub slice_bounds-list-end : goal.slice_bounds-list-end
-slice_bounds-list-end c = omega (arith, one_record c.form_on-form.result c.number_at-2.result c.form_on-form.ensures.1)
+slice_bounds-list-end g c = omega (arith, one_record c.form_on-form.result c.number_at-2.result c.form_on-form.ensures.1)
 
 pub returns-in-1886220131 : goal.returns-in-1886220131
 unfolding compiled_after stream_after
-returns-in-1886220131 c =
+returns-in-1886220131 g c =
     let a = c.args in
-    let is = eq-eqb _ _ c.in-1886220131.is in record { value = yes _ is (on_desk (λ n l w. answer_of (compiling memory_size (task n (take 32 a.desk.now) l w) (length a.stream.now))) a.desk.now a.words.now _ _ _ _ c.form_on-form.ensures.0 c.number_at-2.ensures c.min-n.ensures c.number_at.ensures c.compile_into.ensures.value); stream_after = yes _ is (on_desk (λ n l w. buffer_after memory_size (task n (take 32 a.desk.now) l w) a.stream.now) a.desk.now a.words.now _ _ _ _ c.form_on-form.ensures.0 c.number_at-2.ensures c.min-n.ensures c.number_at.ensures c.compile_into.ensures.stream_after) }
+    let is = eq-eqb _ _ c.in-1886220131.is in record { value = yes _ is (c.told.ensures ∙ ap (told_by g.E.Told.told) (on_desk (λ n l w. answer_of (compiling memory_size (task n (take 32 a.desk.now) l w) (length a.stream.now))) a.desk.now a.words.now _ _ _ _ c.form_on-form.ensures.0 c.number_at-2.ensures c.min-n.ensures c.number_at.ensures c.compile_into.ensures.value)); stream_after = yes _ is (on_desk (λ n l w. buffer_after memory_size (task n (take 32 a.desk.now) l w) a.stream.now) a.desk.now a.words.now _ _ _ _ c.form_on-form.ensures.0 c.number_at-2.ensures c.min-n.ensures c.number_at.ensures c.compile_into.ensures.stream_after) }
 
 pub returns-in-1701080175 : goal.returns-in-1701080175
 unfolding compiled_after stream_after
-returns-in-1701080175 c =
+returns-in-1701080175 g c =
     let a = c.args in
     let not_compile : c.args.k ≢ 1886220131 = omega arith in
     let first = ne_eqb _ _ not_compile in
-    let is = eq-eqb _ _ c.in-1701080175.is in record { value = no _ first (yes _ is (on_desk (λ n l w. answer_of (older_compiling (task n (take 32 a.desk.now) l w) (length a.stream.now))) a.desk.now a.words.now _ _ _ _ c.form_on-form.ensures.0 c.number_at-2.ensures c.min-n.ensures c.number_at.ensures c.compile_into-in-1701080175.ensures.value)); stream_after = no _ first (yes _ is (on_desk (λ n l w. older_buffer (task n (take 32 a.desk.now) l w) a.stream.now) a.desk.now a.words.now _ _ _ _ c.form_on-form.ensures.0 c.number_at-2.ensures c.min-n.ensures c.number_at.ensures c.compile_into-in-1701080175.ensures.stream_after)) }
+    let is = eq-eqb _ _ c.in-1701080175.is in record { value = no _ first (yes _ is (c.told-in-1701080175.ensures ∙ ap (told_by g.E.Told.told) (on_desk (λ n l w. answer_of (older_compiling (task n (take 32 a.desk.now) l w) (length a.stream.now))) a.desk.now a.words.now _ _ _ _ c.form_on-form.ensures.0 c.number_at-2.ensures c.min-n.ensures c.number_at.ensures c.compile_into-in-1701080175.ensures.value))); stream_after = no _ first (yes _ is (on_desk (λ n l w. older_buffer (task n (take 32 a.desk.now) l w) a.stream.now) a.desk.now a.words.now _ _ _ _ c.form_on-form.ensures.0 c.number_at-2.ensures c.min-n.ensures c.number_at.ensures c.compile_into-in-1701080175.ensures.stream_after)) }
 
 pub returns-in_default : goal.returns-in_default
 unfolding compiled_after stream_after
-returns-in_default c = let not_compile : c.args.k ≢ 1886220131 = omega arith in
+returns-in_default g c = let not_compile : c.args.k ≢ 1886220131 = omega arith in
     let first = ne_eqb _ _ not_compile in
     let not_older : c.args.k ≢ 1701080175 = omega arith in
     let second = ne_eqb _ _ not_older in
